@@ -1,0 +1,4 @@
+pub mod Limits
+pub mod Rules
+pub mod Output
+pub mod laws

@@ -1,0 +1,24 @@
+-- `boleto::check_barcode` meets its contract. Assumes nothing.
+use mathlib.Core.Path.{sym}
+use borrow.Author.Needs.{needs}
+use Rattle.answer.specs.laws.Order.{first-append}
+use Rattle.boleto.specs.Rules.{barcodeRules}
+use Rattle.boleto.proofs.check_barcode.Statement.{statement}
+use Rattle.boleto.proofs.check_barcode.Tie as tie
+
+returns : tie.Need-returns
+unfolding barcodeRules
+returns c =
+    let t = c .before in
+    rw (c .and-then .ensures, t .test .ensures, t .before .is-sealed .ensures, t .before .before .check-head .ensures) (sym (first-append _ _))
+
+pub check-barcode-spec : {M : Type 1} → statement M
+check-barcode-spec =
+    tie.close
+    (tie.spec
+    (λ c κs. search needs)
+    (λ c. search needs)
+    (λ c κs. search needs)
+    (λ c κs. search needs)
+    (λ c κs. search needs)
+    returns)

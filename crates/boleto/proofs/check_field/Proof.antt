@@ -1,0 +1,20 @@
+-- `boleto::check_field` meets its contract. Assumes nothing.
+use borrow.Author.Needs.{needs}
+use Rattle.boleto.proofs.check_field.Statement.{statement}
+use Rattle.boleto.proofs.check_field.Tie as tie
+
+returns : tie.Need-returns
+returns c = rw (c .test .ensures, c .before .is-sealed .ensures)
+
+pub check-field-spec : {M : Type 1} → statement M
+check-field-spec =
+    tie.close
+    (tie.spec
+    (λ c. search needs)
+    (λ c. search needs)
+    (λ c. search needs)
+    (λ c. search needs)
+    (λ c. search needs)
+    (λ c κs. search needs)
+    (λ c κs. search needs)
+    returns)

@@ -1,0 +1,37 @@
+-- The rules of a barcode and of a digit line, in the paper's order. Assumes nothing.
+use mathlib.Core.List.{List, [], _∷_, _++_}
+use Prim.Native.Nat.{ℕ, _+_, _-_}
+use lib.Dec.{eqb}
+use lib.ListN.{length}
+use Rattle.answer.specs.Rules.{Rule, rule}
+use Rattle.digits.specs.Digits.{digitByte, leading, allDigits, place, places}
+use Rattle.digits.specs.Checks.{sealed}
+use Rattle.digits.specs.declared.sealing.Modulus.the-variants.{Ten, Eleven}
+use Rattle.boleto.specs.Strings.{barcodeDigits, lineDigits, barcodeOf}
+
+-- a string of n digits: its length, its first non-digit, its currency 9
+unfoldable pub headRules : ℕ → List ℕ → List Rule
+headRules n bs =
+    rule 40 0 (eqb (length bs) n)
+    ∷ rule 41 (leading bs + 1) (allDigits bs)
+    ∷ rule 43 4 (eqb (place 4 bs) (digitByte 9))
+    ∷ []
+
+unfoldable pub barcodeRules : List ℕ → List Rule
+barcodeRules bar = headRules barcodeDigits bar ++ rule 44 5 (sealed Eleven 5 bar) ∷ []
+
+-- a field of the line, from place a to its check digit at place b
+abbrev pub fieldRule : ℕ → ℕ → List ℕ → Rule
+fieldRule a b line = rule 42 b (sealed Ten (b - a + 1) (places a b line))
+
+-- the three fields, then the general check, which is that of the barcode
+unfoldable pub checkRules : List ℕ → List Rule
+checkRules line =
+    fieldRule 1 10 line
+    ∷ fieldRule 11 21 line
+    ∷ fieldRule 22 32 line
+    ∷ rule 44 33 (sealed Eleven 5 (barcodeOf line))
+    ∷ []
+
+unfoldable pub lineRules : List ℕ → List Rule
+lineRules line = headRules lineDigits line ++ checkRules line

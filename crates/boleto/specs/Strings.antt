@@ -1,0 +1,33 @@
+-- The barcode of a boleto and its digit line. Places count from 1. Assumes nothing.
+--     barcode   1-3 bank, 4 currency, 5 general check, 6-9 due factor, 10-19 cents, 20-44 free
+--     line      bank, currency, free 1-5, check; free 6-15, check; free 16-25, check; general check; factor and cents
+use mathlib.Core.List.{List, [], _∷_, _++_}
+use Prim.Native.Nat.{ℕ}
+use Rattle.digits.specs.Digits.{digitByte, places}
+use Rattle.digits.specs.Checks.{checkDigit}
+use Rattle.digits.specs.declared.sealing.Modulus.the-variants.{Ten}
+
+abbrev pub barcodeDigits : ℕ
+barcodeDigits = 44
+
+abbrev pub lineDigits : ℕ
+lineDigits = 47
+
+-- a field of the line: its digits with their check digit behind them
+abbrev pub checked : List ℕ → List ℕ
+checked bs = bs ++ digitByte (checkDigit Ten bs) ∷ []
+
+unfoldable pub lineOf : List ℕ → List ℕ
+lineOf bar =
+    checked (places 1 4 bar ++ places 20 24 bar)
+    ++ checked (places 25 34 bar)
+    ++ checked (places 35 44 bar)
+    ++ places 5 19 bar
+
+unfoldable pub barcodeOf : List ℕ → List ℕ
+barcodeOf line =
+    places 1 4 line
+    ++ places 33 47 line
+    ++ places 5 9 line
+    ++ places 11 20 line
+    ++ places 22 31 line

@@ -1,0 +1,139 @@
+// A boleto's two digit strings, the barcode of 44 digits and the line of 47: checked, and turned
+// into each other.
+mod writing;
+
+use answer::Answer;
+use digits::Modulus;
+use writing::write_barcode;
+use writing::write_line;
+ghost use mathlib.Core.Path.{_≡_};
+ghost use mathlib.Core.List.{_∷_, []};
+ghost use Prim.Native.Nat.{_≤_, _<_};
+ghost use lib.ListN.{length};
+ghost use Rattle.answer.specs.Rules.{firstBroken};
+ghost use Rattle.answer.specs.Output.{Writes};
+ghost use Rattle.digits.specs.Checks.{sealed};
+ghost use Rattle.boleto.specs.Strings.{barcodeDigits, lineDigits, lineOf, barcodeOf};
+ghost use Rattle.boleto.specs.Rules.{headRules, barcodeRules, fieldRule, checkRules, lineRules};
+
+const BARCODE_DIGITS: usize = 44;
+
+const LINE_DIGITS: usize = 47;
+
+// Where the currency stands, in both strings, and the general check, in each.
+const CURRENCY_PLACE: usize = 4;
+
+const BARCODE_CHECK: usize = 5;
+
+const LINE_CHECK: usize = 33;
+
+// The paper's numbers.
+const WRONG_LENGTH: u8 = 40;
+
+const NON_DIGIT: u8 = 41;
+
+const FIELD_CHECK: u8 = 42;
+
+const CURRENCY: u8 = 43;
+
+const GENERAL_CHECK: u8 = 44;
+
+const NO_ROOM: u8 = 50;
+
+// The rules that barcode and line share, for a string of n digits.
+fn check_head(s: &[u8], n: usize) -> Answer
+    requires { ⌜ 4 ≤ n ⌝ }
+    ensures { λ r. ⌜ r ≡ firstBroken (headRules n (now (s .entry))) ⌝ }
+{
+    if s.len() != n {
+        return Answer::refused(WRONG_LENGTH, 0);
+    }
+    let leading = digits::leading(s);
+    if leading != s.len() {
+        return Answer::refused(NON_DIGIT, leading + 1);
+    }
+    Answer::test(CURRENCY, CURRENCY_PLACE, s[CURRENCY_PLACE - 1] == b'9')
+}
+
+pub fn check_barcode(bar: &[u8]) -> Answer
+    ensures { λ r. ⌜ r ≡ firstBroken (barcodeRules (now (bar .entry))) ⌝ }
+{
+    let head = check_head(bar, BARCODE_DIGITS);
+    let sealed = digits::is_sealed(Modulus::Eleven, bar, BARCODE_CHECK - 1);
+    head.and_then(Answer::test(GENERAL_CHECK, BARCODE_CHECK, sealed))
+}
+
+// The check digit at the end of a line's field, which has the places from `first` to `last`.
+fn check_field(line: &[u8], first: usize, last: usize) -> Answer
+    requires { ⌜ (1 ≤ first) × (first ≤ last) × (last ≤ length (now line)) ⌝ }
+    ensures { λ r. ⌜ r ≡ firstBroken (fieldRule first last (now (line .entry)) ∷ []) ⌝ }
+{
+    let sealed = digits::is_sealed(Modulus::Ten, &line[first - 1..last], last - first);
+    Answer::test(FIELD_CHECK, last, sealed)
+}
+
+// The general check of a line is that of its barcode.
+fn general_fits(line: &[u8]) -> bool
+    requires { ⌜ length (now line) ≡ lineDigits ⌝ }
+    ensures { λ r. ⌜ r ≡ sealed Modulus.Eleven 5 (barcodeOf (now (line .entry))) ⌝ }
+{
+    let mut bar = [0u8; BARCODE_DIGITS];
+    write_barcode(line, &mut bar);
+    digits::is_sealed(Modulus::Eleven, &bar, BARCODE_CHECK - 1)
+}
+
+// The four check digits of a line.
+fn check_digits(line: &[u8]) -> Answer
+    requires { ⌜ length (now line) ≡ lineDigits ⌝ }
+    ensures { λ r. ⌜ r ≡ firstBroken (checkRules (now (line .entry))) ⌝ }
+{
+    let first = check_field(line, 1, 10);
+    let second = check_field(line, 11, 21);
+    let third = check_field(line, 22, 32);
+    let general = Answer::test(GENERAL_CHECK, LINE_CHECK, general_fits(line));
+    first.and_then(second.and_then(third.and_then(general)))
+}
+
+pub fn check_line(line: &[u8]) -> Answer
+    ensures { λ r. ⌜ r ≡ firstBroken (lineRules (now (line .entry))) ⌝ }
+{
+    let head = check_head(line, LINE_DIGITS);
+    match head {
+        Answer::Accepted => check_digits(line),
+        Answer::Refused(_) => head,
+    }
+}
+
+// Writes the line of a barcode over the first 47 bytes of out.
+pub fn barcode_to_line(bar: &[u8], out: &mut [u8]) -> Answer
+    ensures { λ r. ⌜ Writes (barcodeRules (now (bar .entry))) lineDigits (lineOf (now (bar .entry))) (now (out .entry)) r (now (out .exit)) ⌝ }
+{
+    let checked = check_barcode(bar);
+    match checked {
+        Answer::Accepted => {
+            if out.len() < LINE_DIGITS {
+                return Answer::refused(NO_ROOM, 0);
+            }
+            write_line(bar, out);
+            Answer::Accepted
+        }
+        Answer::Refused(_) => checked,
+    }
+}
+
+// Writes the barcode of a line over the first 44 bytes of out.
+pub fn line_to_barcode(line: &[u8], out: &mut [u8]) -> Answer
+    ensures { λ r. ⌜ Writes (lineRules (now (line .entry))) barcodeDigits (barcodeOf (now (line .entry))) (now (out .entry)) r (now (out .exit)) ⌝ }
+{
+    let checked = check_line(line);
+    match checked {
+        Answer::Accepted => {
+            if out.len() < BARCODE_DIGITS {
+                return Answer::refused(NO_ROOM, 0);
+            }
+            write_barcode(line, out);
+            Answer::Accepted
+        }
+        Answer::Refused(_) => checked,
+    }
+}

@@ -1,0 +1,144 @@
+-- What the two moduli tell apart: facts of finitely many numbers, each one test that antt computes. Assumes nothing.
+use mathlib.Core.Path.{_≡_, refl, sym, ap, _∙_, subst}
+use mathlib.Core.Logic.{_≢_}
+use mathlib.Core.Bool.{Bool, false, not, _||_}
+use mathlib.Core.List.{List, [], _∷_, _++_}
+use Prim.Native.Nat.{ℕ, suc, _+_, _*_, _/_, _%_, _<_, _≤_}
+use native.Mathlib.Nat.{mod-lt, mod-mod, suc-mod, add-mod, add-mul, mul-right-comm, div-add-mod', mul-add-mod-self-right}
+use native.Mathlib.Omega.{arith}
+use lib.Dec.{T, eqb, leb, eqb→eq, leb→le, not-T, T-not, lit<}
+use borrow.Author.Tests.{eq-eqb}
+use lib.ListN.{length}
+use Rattle.digits.specs.Digits.{digitOf, Digit, weighed}
+use Rattle.digits.specs.Checks.{base, weight, counts, lift}
+use Rattle.digits.specs.declared.sealing.Modulus.{Modulus}
+use Rattle.digits.specs.declared.sealing.Modulus.the-variants.{Ten, Eleven}
+use Rattle.digits.specs.laws.Tests.{every, every-at, apart, apart-at, or-left}
+use Rattle.digits.specs.laws.Strings.{digit-small, same-digit}
+use Rattle.digits.specs.laws.Sums.{replaced, one, two}
+
+-- ---- what weights must do, and what follows for a string of any length
+
+-- two digits count differently at every place
+pub record TellsDigits (M : ℕ) (f : ℕ → ℕ → ℕ) : Type 0 where
+  pub tells : (k d e : ℕ) → d ≤ 9 → e ≤ 9 → f k d % M ≡ f k e % M → d ≡ e
+
+-- and so do two neighbours and the same two swapped
+pub record TellsNeighbours (M : ℕ) (f : ℕ → ℕ → ℕ) : Type 0 where
+  pub tells : (k d e : ℕ) → d ≤ 9 → e ≤ 9 → (f (suc k) d + f k e) % M ≡ (f (suc k) e + f k d) % M → d ≡ e
+
+module _ (M : ℕ) (f : ℕ → ℕ → ℕ) (xs zs : List ℕ) (a b : ℕ) (da : Digit a) (db : Digit b) (ne : a ≢ b) where
+  -- one digit changed changes the sum
+  pub digit-changed : TellsDigits M f → weighed f (xs ++ ((a ∷ []) ++ zs)) % M ≢ weighed f (xs ++ ((b ∷ []) ++ zs)) % M
+  digit-changed t e =
+      ne (same-digit a b da db
+      (t .tells (length zs) (digitOf a) (digitOf b) (digit-small a) (digit-small b) (simp one at (replaced f M xs (a ∷ []) (b ∷ []) zs refl e))))
+
+  -- two unequal neighbours swapped change the sum
+  pub neighbours-swapped : TellsNeighbours M f → weighed f (xs ++ ((a ∷ b ∷ []) ++ zs)) % M ≢ weighed f (xs ++ ((b ∷ a ∷ []) ++ zs)) % M
+  neighbours-swapped t e =
+      ne (same-digit a b da db
+      (t .tells (length zs) (digitOf a) (digitOf b) (digit-small a) (digit-small b) (simp two at (replaced f M xs (a ∷ b ∷ []) (b ∷ a ∷ []) zs refl e))))
+
+-- ---- modulus 11, over any weights
+
+times-mod : (M w d : ℕ) → w * d % M ≡ w % M * d % M
+times-mod M w d =
+    ap (λ (n : ℕ). n * d % M) (sym (div-add-mod' w M))
+    ∙ rw (add-mul, mul-right-comm) (mul-add-mod-self-right (w / M * d) M (w % M * d))
+
+eleven-test : T (every 11 (λ r. eqb r 0 || every 10 (λ d. every 10 (λ e. apart d e (r * d % 11) (r * e % 11)))))
+unfolding every
+eleven-test = tt
+
+eleven-tells : (w d e : ℕ) → w % 11 ≢ 0 → d ≤ 9 → e ≤ 9 → w * d % 11 ≡ w * e % 11 → d ≡ e
+eleven-tells w d e nz hd he q =
+    let r = w % 11 in
+    let some : T (not (eqb r 0)) = not-T (eqb r 0) (λ t. nz (eqb→eq r 0 t)) in
+    let here = or-left (eqb r 0) _ some (every-at 11 _ eleven-test r (mod-lt w (lit< tt))) in
+    apart-at d e _ _ (every-at 10 _ (every-at 10 _ here d (omega arith)) e (omega arith)) (sym (times-mod 11 w d) ∙ q ∙ times-mod 11 w e)
+
+-- weights of which none is a multiple of 11 tell digits apart
+pub weights-tell : (w : ℕ → ℕ) → ((k : ℕ) → w k % 11 ≢ 0) → TellsDigits 11 (λ k d. w k * d)
+weights-tell w nz = record { tells = λ k d e hd he q. eleven-tells (w k) d e (nz k) hd he q }
+
+swap-test : T (every 11 (λ r. every 11 (λ s. eqb r s || every 10 (λ d. every 10 (λ e. apart d e ((r * d + s * e) % 11) ((r * e + s * d) % 11))))))
+unfolding every
+swap-test = tt
+
+pair-mod : (v w d e : ℕ) → (v * d + w * e) % 11 ≡ (v % 11 * d + w % 11 * e) % 11
+pair-mod v w d e = rw (add-mod, times-mod 11 v d, times-mod 11 w e, ← (add-mod (v % 11 * d) (w % 11 * e) 11))
+
+swap-tells : (v w d e : ℕ) → v % 11 ≢ w % 11 → d ≤ 9 → e ≤ 9 → (v * d + w * e) % 11 ≡ (v * e + w * d) % 11 → d ≡ e
+swap-tells v w d e ne hd he q =
+    let apart-from : T (not (eqb (v % 11) (w % 11))) = not-T (eqb (v % 11) (w % 11)) (λ t. ne (eqb→eq (v % 11) (w % 11) t)) in
+    let here = or-left (eqb (v % 11) (w % 11)) _ apart-from (every-at 11 _ (every-at 11 _ swap-test (v % 11) (mod-lt v (lit< tt))) (w % 11) (mod-lt w (lit< tt))) in
+    apart-at d e _ _ (every-at 10 _ (every-at 10 _ here d (omega arith)) e (omega arith)) (sym (pair-mod v w d e) ∙ q ∙ pair-mod v w e d)
+
+-- weights of which no two neighbours are equal modulo 11 tell swapped neighbours apart
+pub weights-tell-neighbours : (w : ℕ → ℕ) → ((k : ℕ) → w (suc k) % 11 ≢ w k % 11) → TellsNeighbours 11 (λ k d. w k * d)
+weights-tell-neighbours w ne = record { tells = λ k d e hd he q. swap-tells (w (suc k)) (w k) d e (ne k) hd he q }
+
+-- ---- the two moduli
+
+pub base-pos : (m : Modulus) → 0 < base m
+base-pos Ten = lit< tt
+base-pos Eleven = lit< tt
+
+-- the weights repeat after eight places
+pub counts-mod : (m : Modulus) (k l d : ℕ) → k % 8 ≡ l % 8 → counts m k d ≡ counts m l d
+unfolding counts
+counts-mod Ten k l d h = let h2 : k % 2 ≡ l % 2 = omega arith in rw h2
+counts-mod Eleven k l d h = rw h
+
+ten-test : T (every 8 (λ k. every 10 (λ d. every 10 (λ e. apart d e (counts Ten k d % 10) (counts Ten k e % 10)))))
+unfolding every counts
+ten-test = tt
+
+ten-tells : (k d e : ℕ) → d ≤ 9 → e ≤ 9 → counts Ten k d % 10 ≡ counts Ten k e % 10 → d ≡ e
+ten-tells k d e hd he q =
+    let c : (x : ℕ) → counts Ten k x ≡ counts Ten (k % 8) x = λ x. counts-mod Ten k (k % 8) x (sym (mod-mod k 8)) in
+    apart-at d e _ _ (every-at 10 _ (every-at 10 _ (every-at 8 _ ten-test (k % 8) (mod-lt k (lit< tt))) d (omega arith)) e (omega arith)) (simp c at q)
+
+pub checks-tell : (m : Modulus) → TellsDigits (base m) (counts m)
+unfolding counts
+checks-tell Ten = record { tells = ten-tells }
+checks-tell Eleven = weights-tell (weight Eleven) (λ k. omega arith)
+
+differ-test : T (every 8 (λ k. not (eqb (weight Eleven (suc k) % 11) (weight Eleven k % 11))))
+unfolding every
+differ-test = tt
+
+neighbours-differ : (k : ℕ) → weight Eleven (suc k) % 11 ≢ weight Eleven k % 11
+neighbours-differ k e =
+    let same : weight Eleven (suc (k % 8)) % 11 ≡ weight Eleven (k % 8) % 11 = rw (← (suc-mod k 8), mod-mod) e in
+    T-not (eqb (weight Eleven (suc (k % 8)) % 11) (weight Eleven (k % 8) % 11)) (every-at 8 _ differ-test (k % 8) (mod-lt k (lit< tt))) (subst T (sym (eq-eqb _ _ same)) tt)
+
+pub eleven-tells-neighbours : TellsNeighbours 11 (counts Eleven)
+unfolding counts
+eleven-tells-neighbours = weights-tell-neighbours (weight Eleven) neighbours-differ
+
+-- ---- what a check digit says of the remainder
+
+-- it gives the remainder back, except 1 by modulus 11
+abbrev pub blind : Modulus → ℕ → Bool
+blind Ten x = false
+blind Eleven x = eqb x 1
+
+firm-test : (m : Modulus) → T (every (base m) (λ r. every (base m) (λ s. blind m (lift m r) || apart r s (lift m r) (lift m s))))
+unfolding every lift
+firm-test Ten = tt
+firm-test Eleven = tt
+
+pub firm : (m : Modulus) (r s : ℕ) → r < base m → s < base m → T (not (blind m (lift m r))) → lift m r ≡ lift m s → r ≡ s
+firm m r s hr hs f q =
+    apart-at r s _ _ (or-left (blind m (lift m r)) _ f (every-at (base m) _ (every-at (base m) _ (firm-test m) r hr) s hs)) q
+
+-- it is a digit
+lift-test : (m : Modulus) → T (every (base m) (λ r. leb (lift m r) 9))
+unfolding every lift
+lift-test Ten = tt
+lift-test Eleven = tt
+
+pub lift-small : (m : Modulus) (r : ℕ) → r < base m → lift m r ≤ 9
+lift-small m r h = leb→le (lift m r) 9 (every-at (base m) _ (lift-test m) r h)

@@ -1,0 +1,40 @@
+// Digit strings: the numbers they spell, and their check digits.
+mod sealing;
+mod spelling;
+
+pub use sealing::Modulus;
+pub use sealing::check_digit;
+pub use sealing::is_sealed;
+pub use spelling::Number;
+pub use spelling::number_of;
+pub use spelling::write_number;
+ghost use mathlib.Core.Path.{_≡_};
+ghost use Prim.Native.Nat.{_≤_};
+ghost use Rattle.digits.specs.Digits.{digit?, digitOf, leading};
+
+fn is_digit(b: u8) -> bool
+    ensures { λ r. ⌜ r ≡ digit? b ⌝ }
+{
+    b'0' <= b && b <= b'9'
+}
+
+// What a byte counts: one that is no digit counts 0.
+fn digit_of(b: u8) -> u64
+    ensures { λ r. ⌜ (r ≡ digitOf b) × (r ≤ 9) ⌝ }
+{
+    if is_digit(b) { (b - b'0') as u64 } else { 0 }
+}
+
+// How many digits s begins with.
+pub fn leading(s: &[u8]) -> usize
+    ensures { λ r. ⌜ r ≡ leading (now (s .entry)) ⌝ }
+{
+    let mut i = 0;
+    while i < s.len() {
+        if !is_digit(s[i]) {
+            return i;
+        }
+        i += 1;
+    }
+    i
+}

@@ -1,0 +1,101 @@
+// Check digits, from the right.
+use super::digit_of;
+ghost use mathlib.Core.Path.{_≡_};
+ghost use mathlib.Core.List.{_++_};
+ghost use Prim.Native.Nat.{_+_, _%_, _^_, _<_, _≤_};
+ghost use lib.ListN.{length};
+ghost use Rattle.digits.specs.Digits.{digitByte, weighed, behind};
+ghost use Rattle.digits.specs.Checks.{base, counts, lift, checkDigit, sealed};
+
+// Ten: weights 2, 1, 2 .. and the digits of each product added. Eleven: weights 2 to 9, repeating.
+pub enum Modulus {
+    Ten,
+    Eleven,
+}
+
+// A sum from here on is reduced, so that a string of any length can be weighed.
+const LARGE: u64 = 1000000;
+
+fn base_of(m: Modulus) -> u64
+    ensures { λ r. ⌜ r ≡ base m ⌝ }
+{
+    match m {
+        Modulus::Ten => 10,
+        Modulus::Eleven => 11,
+    }
+}
+
+// What a digit d with k digits to its right counts.
+fn count(m: Modulus, k: usize, d: u64) -> u64
+    requires { ⌜ d ≤ 9 ⌝ }
+    ensures { λ r. ⌜ r ≡ counts m k d ⌝ }
+{
+    match m {
+        Modulus::Ten => {
+            let p = (2 - (k % 2) as u64) * d;
+            p / 10 + p % 10
+        }
+        Modulus::Eleven => (2 + (k % 8) as u64) * d,
+    }
+}
+
+// A number with the same remainder that leaves room for what a digit counts.
+fn reduced(m: Modulus, sum: u64) -> u64
+    ensures { λ r. ⌜ (r % base m ≡ sum % base m) × (r < 1000000) ⌝ }
+{
+    if sum < LARGE { sum } else { sum % base_of(m) }
+}
+
+// The weighted sum of s, which has `right` digits behind it, as a remainder.
+fn weigh(m: Modulus, s: &[u8], right: usize) -> u64
+    requires { ⌜ right < 2 ^ 63 ⌝ }
+    ensures { λ r. ⌜ r ≡ weighed (behind right (counts m)) (now (s .entry)) % base m ⌝ }
+{
+    let mut sum = 0;
+    let mut k = right;
+    let mut i = s.len();
+    while 0 < i {
+        i -= 1;
+        sum = reduced(m, sum) + count(m, k, digit_of(s[i]));
+        k += 1;
+    }
+    sum % base_of(m)
+}
+
+// The check digit for a remainder, as a byte.
+fn lifted(m: Modulus, r: u64) -> u8
+    requires { ⌜ r < base m ⌝ }
+    ensures { λ x. ⌜ x ≡ digitByte (lift m r) ⌝ }
+{
+    match m {
+        Modulus::Ten => b'0' + ((10 - r) % 10) as u8,
+        Modulus::Eleven => { if r < 2 { b'1' } else { b'0' + (11 - r) as u8 } }
+    }
+}
+
+// The check digit of s, as a byte.
+pub fn check_digit(m: Modulus, s: &[u8]) -> u8
+    ensures { λ r. ⌜ r ≡ digitByte (checkDigit m (now (s .entry))) ⌝ }
+{
+    lifted(m, weigh(m, s, 0))
+}
+
+// The check digit of a and b, one behind the other, as a byte.
+fn check_of(m: Modulus, a: &[u8], b: &[u8]) -> u8
+    ensures { λ r. ⌜ r ≡ digitByte (checkDigit m (now (a .entry) ++ now (b .entry))) ⌝ }
+{
+    let low = weigh(m, b, 0);
+    let high = weigh(m, a, b.len());
+    lifted(m, (low + high) % base_of(m))
+}
+
+// Whether the byte at index `at` is the check digit of all the others.
+pub fn is_sealed(m: Modulus, s: &[u8], at: usize) -> bool
+    ensures { λ r. ⌜ r ≡ sealed m (at + 1) (now (s .entry)) ⌝ }
+{
+    if s.len() <= at {
+        return false;
+    }
+    let check = check_of(m, &s[0..at], &s[at + 1..]);
+    s[at] == check
+}

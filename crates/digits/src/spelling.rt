@@ -1,0 +1,70 @@
+// The number that a digit string spells, and the digits of a number at a width.
+use super::digit_of;
+use super::leading;
+ghost use mathlib.Core.Path.{_≡_};
+ghost use Prim.Native.Nat.{_≤_};
+ghost use lib.ListN.{length, replicate};
+ghost use Rattle.digits.specs.Numbers.{mostDigits, number, numberOf, star, numeral};
+
+// Of more digits the number might not fit.
+const MOST_DIGITS: usize = 19;
+
+// Stands where a number has more digits than its width: printable and no digit.
+const STAR: u8 = b'*';
+
+pub enum Number {
+    Is(u64),
+    Not,
+}
+
+// The number that the digits give, from the left.
+fn spelled(s: &[u8]) -> u64
+    requires { ⌜ length (now s) ≤ mostDigits ⌝ }
+    ensures { λ r. ⌜ r ≡ number (now (s .entry)) ⌝ }
+{
+    let mut n = 0;
+    let mut i = 0;
+    while i < s.len() {
+        n = n * 10 + digit_of(s[i]);
+        i += 1;
+    }
+    n
+}
+
+pub fn number_of(s: &[u8]) -> Number
+    ensures { λ r. ⌜ r ≡ numberOf (now (s .entry)) ⌝ }
+{
+    if MOST_DIGITS < s.len() {
+        return Number::Not;
+    }
+    if leading(s) != s.len() {
+        return Number::Not;
+    }
+    Number::Is(spelled(s))
+}
+
+fn fill_stars(part: &mut [u8])
+    ensures { λ _. ⌜ now (part .exit) ≡ replicate (length (now (part .entry))) star ⌝ }
+{
+    let mut i = 0;
+    while i < part.len() {
+        part[i] = STAR;
+        i += 1;
+    }
+}
+
+// n over the whole part, from the right: its digits behind zeros, or stars where some are left.
+pub fn write_number(n: u64, part: &mut [u8])
+    ensures { λ _. ⌜ now (part .exit) ≡ numeral (length (now (part .entry))) n ⌝ }
+{
+    let mut left = n;
+    let mut i = part.len();
+    while 0 < i {
+        i -= 1;
+        part[i] = b'0' + (left % 10) as u8;
+        left /= 10;
+    }
+    if left != 0 {
+        fill_stars(part);
+    }
+}

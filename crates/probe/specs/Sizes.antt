@@ -1,0 +1,16 @@
+-- How long a request's payload and output memory may be. Assumes nothing.
+use mathlib.Core.Path.{_≡_}
+use Prim.Native.Nat.{ℕ, _≤_}
+use Rattle.digits.specs.declared.spelling.Number.{Number}
+use Rattle.digits.specs.declared.spelling.Number.the-variants.{Is}
+
+-- the most that six digits can announce, and the most that a call takes
+abbrev pub mostAnnounced : ℕ
+mostAnnounced = 999999
+
+abbrev pub mostBytes : ℕ
+mostBytes = 900000
+
+-- a number, if there is one, that six digits can announce
+pub record Announced (r : Number) : Type 0 where
+  pub small : (n : ℕ) → r ≡ Is n → n ≤ mostAnnounced

@@ -1,0 +1,92 @@
+// Drives the library for tests: reads requests from standard input until it ends, and answers each.
+//
+// A request is a header of 16 bytes and a payload. The reply is a line, `OK` or `NO number line
+// place`, and for calls with output memory the whole of that memory and LF. A malformed request is
+// answered `NO 0 0 0` alone; a request that is cut short ends the program.
+mod header;
+mod reply;
+
+use header::Op;
+use libc::STDIN_FILENO;
+ghost use Prim.Native.Nat.{_≤_};
+ghost use mathlib.Core.Path.{_≡_};
+ghost use lib.ListN.{length};
+ghost use Rattle.probe.specs.Sizes.{mostAnnounced, mostBytes};
+
+// The longest payload that a header can announce, and the most output memory of a call.
+const MOST_ANNOUNCED: usize = 999999;
+
+const MOST_BYTES: usize = 900000;
+
+const HEADER_BYTES: usize = 16;
+
+// What output memory holds before a call.
+const UNTOUCHED: u8 = 170;
+
+fn fill(out: &mut [u8]) {
+    let mut i = 0;
+    while i < out.len() {
+        out[i] = UNTOUCHED;
+        i += 1;
+    }
+}
+
+// Makes the call, and writes its answer and the output memory.
+fn call(op: Op, payload: &[u8], out: &mut [u8]) {
+    fill(out);
+    match op {
+        Op::BarcodeToLine => reply::memory(boleto::barcode_to_line(payload, out), out),
+        Op::LineToBarcode => reply::memory(boleto::line_to_barcode(payload, out), out),
+        Op::Malformed => reply::malformed(),
+    }
+}
+
+// Answers one request; false where the input ends before it is complete.
+fn serve(payload: &mut [u8], out: &mut [u8]) -> bool
+    requires { ⌜ length (now payload) ≡ mostAnnounced ⌝ }
+    requires { ⌜ length (now out) ≡ mostBytes ⌝ }
+{
+    let mut head = [0u8; HEADER_BYTES];
+    if io::read_full(STDIN_FILENO, &mut head) < HEADER_BYTES {
+        return false;
+    }
+    let request = header::parse(&head);
+    let op = request.op;
+    let length = request.length;
+    let room = request.room;
+    if io::read_full(STDIN_FILENO, &mut payload[..length]) < length {
+        return false;
+    }
+    call(op, &payload[..length], &mut out[..room]);
+    true
+}
+
+// A proved loop has to end, and nothing says that the input does. So it counts its turns down, from
+// a number that no run uses up.
+fn serve_all(payload: &mut [u8], out: &mut [u8])
+    requires { ⌜ length (now payload) ≡ mostAnnounced ⌝ }
+    requires { ⌜ length (now out) ≡ mostBytes ⌝ }
+{
+    let mut turns = u64::MAX;
+    while 0 < turns && serve(payload, out) {
+        turns -= 1;
+    }
+}
+
+fn payload_memory() -> [u8; MOST_ANNOUNCED]
+    ensures { λ r. ⌜ length r ≡ mostAnnounced ⌝ }
+{
+    [0; MOST_ANNOUNCED]
+}
+
+fn output_memory() -> [u8; MOST_BYTES]
+    ensures { λ r. ⌜ length r ≡ mostBytes ⌝ }
+{
+    [0; MOST_BYTES]
+}
+
+fn main() {
+    let mut payload = payload_memory();
+    let mut out = output_memory();
+    serve_all(&mut payload, &mut out);
+}

@@ -1,0 +1,36 @@
+// Replies, on standard output.
+use answer::Answer;
+use libc::STDOUT_FILENO;
+
+fn spaced(n: u64) {
+    io::write_all(STDOUT_FILENO, b" ");
+    io::print_decimal(STDOUT_FILENO, n);
+}
+
+fn refused(number: u64, line: u64, place: u64) {
+    io::write_all(STDOUT_FILENO, b"NO");
+    spaced(number);
+    spaced(line);
+    spaced(place);
+    io::write_all(STDOUT_FILENO, b"\n");
+}
+
+fn line(answer: Answer) {
+    match answer {
+        Answer::Accepted => {
+            io::write_all(STDOUT_FILENO, b"OK\n");
+        }
+        Answer::Refused(r) => refused(r.number as u64, r.line.0, r.place as u64),
+    }
+}
+
+pub(crate) fn malformed() {
+    refused(0, 0, 0);
+}
+
+// Of a call with output memory.
+pub(crate) fn memory(answer: Answer, out: &[u8]) {
+    line(answer);
+    io::write_all(STDOUT_FILENO, out);
+    io::write_all(STDOUT_FILENO, b"\n");
+}

@@ -1,0 +1,72 @@
+-- The table of proved examples: twelve, in one statement. Assumes nothing.
+use mathlib.Core.Bool.{Bool, true, false, not, _&&_}
+use mathlib.Core.List.{List, [], _∷_}
+use Prim.Native.Char.{code}
+use Prim.Native.Nat.{ℕ}
+use Prim.Native.String.{String, [] as []ˢ, _∷_ as _∷ˢ_}
+use lib.Dec.{T, eqb}
+use Rattle.answer.specs.Rules.{firstBroken}
+use Rattle.answer.specs.declared.Answer.{Answer}
+use Rattle.answer.specs.declared.Answer.the-variants.{Accepted, Refused}
+use Rattle.digits.specs.Digits.{leading, weighed}
+use Rattle.digits.specs.Checks.{counts, lift, checkDigit}
+use Rattle.digits.specs.declared.sealing.Modulus.the-variants.{Ten, Eleven}
+use Rattle.calendar.specs.Calendar.{date, exists}
+use Rattle.calendar.specs.Due.{daysOfYears, dayNumber, factorOf, noDueDate, factorFits}
+use Rattle.calendar.specs.declared.Date.{Date}
+use Rattle.boleto.specs.Strings.{lineOf}
+use Rattle.boleto.specs.Rules.{headRules, barcodeRules}
+
+-- a text as its bytes
+abbrev pub bytes : String → List ℕ
+bytes []ˢ = []
+bytes (c ∷ˢ s) = code c ∷ bytes s
+
+abbrev pub same : List ℕ → List ℕ → Bool
+same [] [] = true
+same [] (y ∷ ys) = false
+same (x ∷ xs) [] = false
+same (x ∷ xs) (y ∷ ys) = eqb x y && same xs ys
+
+abbrev pub accepted? : Answer → Bool
+accepted? Accepted = true
+accepted? (Refused r) = false
+
+pub data Example : Type 0 where
+  fieldCheck : String → ℕ → Example
+  generalCheck : String → ℕ → Example
+  barcode : String → String → Example
+  undated : ℕ → Example
+  due : ℕ → Date → Example
+
+-- a check digit; a valid barcode and its line; a factor that names no date; a factor and the date, which exists, that it gives
+unfoldable pub holds : Example → Bool
+holds (fieldCheck s d) = eqb (checkDigit Ten (bytes s)) d
+holds (generalCheck s d) = eqb (checkDigit Eleven (bytes s)) d
+holds (barcode b l) = accepted? (firstBroken (barcodeRules (bytes b))) && same (lineOf (bytes b)) (bytes l)
+holds (undated f) = noDueDate f
+holds (due f d) = not (noDueDate f) && (exists d && factorFits f d)
+
+unfoldable pub table : List Example
+table =
+    fieldCheck "085910408" 5
+    ∷ fieldCheck "0001111100" 2
+    ∷ fieldCheck "0000000401" 0
+    ∷ generalCheck "0009000000000000000000000000000000000000000" 7
+    ∷ generalCheck "0009000000000000000000000000000000000000003" 1
+    ∷ generalCheck "0009000000000000000000000000000000000000004" 1
+    ∷ generalCheck "0009000000000000000000000000000000000000009" 1
+    ∷ barcode "08592726900000100001040800011111000000000401" "08591040850001111100200000004010272690000010000"
+    ∷ undated 0
+    ∷ due 1000 (date 3 7 2000)
+    ∷ due 7269 (date 1 9 2017)
+    ∷ due 9999 (date 21 2 2025)
+    ∷ []
+
+abbrev pub every : List Example → Bool
+every [] = true
+every (e ∷ es) = holds e && every es
+
+pub table-holds : T (every table)
+unfolding table holds checkDigit counts lift weighed leading headRules barcodeRules firstBroken lineOf exists daysOfYears dayNumber factorOf
+table-holds = tt

@@ -1,0 +1,1 @@
+// What is promised of all crates together: statements and proofs in specs/, no code.

@@ -1,0 +1,433 @@
+//! How the requests about digit strings are made. Strings are always made by
+//! the rules of document 01, so that a seeded fault changes what is expected
+//! and never what is asked.
+
+use crate::digit_strings::{
+    Conversion, DigitRules, BARCODE_CHECK_PLACE, BARCODE_DIGITS, CURRENCY, CURRENCY_PLACE,
+    FIELD_CHECK_PLACES, LINE_DIGITS,
+};
+use crate::probe::{Request, BYTES_LIMIT, DIRECTIONS};
+use crate::random::Random;
+
+pub const PAPER_BARCODE: &[u8] = b"08592726900000100001040800011111000000000401";
+pub const PAPER_LINE: &[u8] = b"08591040850001111100200000004010272690000010000";
+/// As document 004 prints it, with a second field check that is wrong.
+pub const DOCUMENT_004_LINE: &[u8] = b"08591040850001111100500000004010372690000010000";
+
+const CONVERSIONS: [Conversion; 2] = [Conversion::BarcodeToLine, Conversion::LineToBarcode];
+const DIGITS: &[u8] = b"0123456789";
+/// The neighbours of the digits, blanks, line ends, letters and both extremes.
+const NON_DIGITS: &[u8] = b"\x00/: \xFF\nAz-";
+
+/// Around both results' lengths, too small ones and ample ones.
+const ROOMS: [usize; 10] = [0, 1, 43, 44, 45, 46, 47, 48, 64, 300];
+const LARGE_ROOMS: [usize; 5] = [1_000, 65_535, 65_536, BYTES_LIMIT - 1, BYTES_LIMIT];
+const LARGE_LENGTHS: [usize; 6] = [1_000, 65_535, 65_536, 300_000, BYTES_LIMIT - 1, BYTES_LIMIT];
+/// Bytes behind the result, which the call must leave as they are.
+const SPARE_ROOMS: [usize; 3] = [0, 1, 20];
+const LONGEST_SHORT_STRING: usize = 60;
+
+const BARCODES_PER_CHECK: usize = 20;
+/// Check 1 stands for three remainders and is where strings are less guarded.
+const BARCODES_WITH_CHECK_ONE: usize = 60;
+const CHANGED_PER_CHECK: usize = 1;
+const CHANGED_WITH_CHECK_ONE: usize = 3;
+const BARCODES_PER_REMAINDER: usize = 5;
+/// The remainders of the general check that all give digit 1.
+const REMAINDERS_OF_CHECK_ONE: [u32; 3] = [0, 1, 10];
+
+const REPEATS_PER_LINE_FLAWS: usize = 10;
+const REPEATS_PER_BARCODE_FLAWS: usize = 60;
+const STRINGS_WITH_SEVERAL_CHANGES: usize = 1_500;
+const MOST_CHANGES: usize = 4;
+const RANDOM_STRINGS: usize = 200;
+
+const FACTOR_DIGITS: usize = 4;
+const CENTS_DIGITS: usize = 10;
+const FREE_DIGITS: usize = 25;
+const ZEROS_ONCE_IN: usize = 4;
+const NON_DIGIT_ONCE_IN: usize = 8;
+const FACTORS: [&[u8; FACTOR_DIGITS]; 5] = [b"0000", b"0001", b"1000", b"7269", b"9999"];
+
+/// What can be wrong with a request about a digit string, all independent of
+/// each other. Field checks come last, since barcodes have none.
+const WRONG_LENGTH: usize = 0;
+const WITH_NON_DIGIT: usize = 1;
+const WRONG_CURRENCY: usize = 2;
+const WRONG_GENERAL_CHECK: usize = 3;
+const SMALL_ROOM: usize = 4;
+const WRONG_FIELD_CHECKS: [usize; 3] = [5, 6, 7];
+const KINDS_OF_BARCODE_FLAWS: usize = 5;
+const KINDS_OF_LINE_FLAWS: usize = 8;
+
+/// A set of the flaws above, one bit each.
+#[derive(Clone, Copy)]
+struct FlawSet(usize);
+
+impl FlawSet {
+    fn has(self, flaw: usize) -> bool {
+        self.0 >> flaw & 1 == 1
+    }
+}
+
+fn all_flaw_sets(conversion: Conversion) -> impl Iterator<Item = FlawSet> {
+    let kinds = match conversion {
+        Conversion::BarcodeToLine => KINDS_OF_BARCODE_FLAWS,
+        Conversion::LineToBarcode => KINDS_OF_LINE_FLAWS,
+    };
+    (0..1 << kinds).map(FlawSet)
+}
+
+/// All requests about digit strings, over the given accepted barcodes.
+pub fn requests(random: &mut Random, barcodes: &[Vec<u8>]) -> Vec<Request> {
+    let mut cases = DigitCases {
+        random,
+        paper: DigitRules::of_the_paper(),
+        requests: Vec::new(),
+    };
+    cases.document_examples();
+    for barcode in barcodes {
+        cases.accepted_in_all_rooms(barcode);
+        cases.round_trip(barcode);
+    }
+    for barcode in few_of_each_check(barcodes) {
+        for (conversion, string) in cases.both_strings(barcode) {
+            cases.changed_places(conversion, &string);
+            cases.moved_digits(conversion, &string);
+        }
+    }
+    cases.remainders_of_check_one();
+    cases.lengths();
+    cases.large_requests();
+    cases.unlikely_strings();
+    cases.several_flaws();
+    cases.several_changes(barcodes);
+    cases.requests
+}
+
+/// Accepted barcodes with every general check digit there is.
+pub fn accepted_barcodes(random: &mut Random) -> Vec<Vec<u8>> {
+    let paper = DigitRules::of_the_paper();
+    let mut barcodes = vec![PAPER_BARCODE.to_vec()];
+    for check in b'1'..=b'9' {
+        let wanted = if check == b'1' {
+            BARCODES_WITH_CHECK_ONE
+        } else {
+            BARCODES_PER_CHECK
+        };
+        for _ in 0..wanted {
+            let fits = |barcode: &[u8]| paper.general_check(barcode) == check;
+            barcodes.push(checked_barcode_that(random, &paper, fits));
+        }
+    }
+    barcodes
+}
+
+fn checked_barcode_that(
+    random: &mut Random,
+    paper: &DigitRules,
+    fits: impl Fn(&[u8]) -> bool,
+) -> Vec<u8> {
+    loop {
+        let mut barcode = unchecked_barcode(random);
+        if fits(&barcode) {
+            set_general_check(&mut barcode, paper);
+            return barcode;
+        }
+    }
+}
+
+/// Right but for its general check, which is 0. Factor, cents and free digits
+/// are zero often enough to meet strings that are nearly empty.
+fn unchecked_barcode(random: &mut Random) -> Vec<u8> {
+    let mut barcode = digits(random, CURRENCY_PLACE - 1);
+    barcode.push(CURRENCY);
+    barcode.push(b'0');
+    let factor = if random.coin() {
+        random.pick(&FACTORS).to_vec()
+    } else {
+        digits(random, FACTOR_DIGITS)
+    };
+    barcode.extend(factor);
+    barcode.extend(digits_or_zeros(random, CENTS_DIGITS));
+    barcode.extend(digits_or_zeros(random, FREE_DIGITS - 1));
+    barcode.push(random.digit());
+    barcode
+}
+
+fn digits(random: &mut Random, count: usize) -> Vec<u8> {
+    (0..count).map(|_| random.digit()).collect()
+}
+
+fn digits_or_zeros(random: &mut Random, count: usize) -> Vec<u8> {
+    if random.below(ZEROS_ONCE_IN) == 0 {
+        vec![b'0'; count]
+    } else {
+        digits(random, count)
+    }
+}
+
+fn set_general_check(barcode: &mut [u8], paper: &DigitRules) {
+    barcode[BARCODE_CHECK_PLACE - 1] = paper.general_check(barcode);
+}
+
+fn few_of_each_check(barcodes: &[Vec<u8>]) -> Vec<&Vec<u8>> {
+    let mut few = vec![&barcodes[0]];
+    for check in b'1'..=b'9' {
+        let wanted = if check == b'1' {
+            CHANGED_WITH_CHECK_ONE
+        } else {
+            CHANGED_PER_CHECK
+        };
+        let others = barcodes.iter().skip(1);
+        let with_check = others.filter(|barcode| barcode[BARCODE_CHECK_PLACE - 1] == check);
+        few.extend(with_check.take(wanted));
+    }
+    few
+}
+
+struct DigitCases<'a> {
+    random: &'a mut Random,
+    paper: DigitRules,
+    requests: Vec<Request>,
+}
+
+impl DigitCases<'_> {
+    fn ask(&mut self, conversion: Conversion, room: usize, string: Vec<u8>) {
+        let direction = self.random.pick(&DIRECTIONS);
+        self.requests
+            .push(Request::new(conversion.op(), direction, room, string));
+    }
+
+    /// With room for the result, so that the string alone decides.
+    fn ask_with_room(&mut self, conversion: Conversion, string: Vec<u8>) {
+        let spare = self.random.pick(&SPARE_ROOMS);
+        self.ask(conversion, conversion.result_digits() + spare, string);
+    }
+
+    fn both_strings(&self, barcode: &[u8]) -> [(Conversion, Vec<u8>); 2] {
+        [
+            (Conversion::BarcodeToLine, barcode.to_vec()),
+            (Conversion::LineToBarcode, self.paper.line_of(barcode)),
+        ]
+    }
+
+    fn document_examples(&mut self) {
+        for room in ROOMS {
+            self.ask(Conversion::BarcodeToLine, room, PAPER_BARCODE.to_vec());
+            self.ask(Conversion::LineToBarcode, room, PAPER_LINE.to_vec());
+            self.ask(Conversion::LineToBarcode, room, DOCUMENT_004_LINE.to_vec());
+        }
+    }
+
+    fn accepted_in_all_rooms(&mut self, barcode: &[u8]) {
+        for (conversion, string) in self.both_strings(barcode) {
+            for room in ROOMS {
+                self.ask(conversion, room, string.clone());
+            }
+        }
+    }
+
+    /// The result of one request is the string of the next. It is taken from
+    /// what is expected: the comparison holds only if the program gave just that.
+    fn round_trip(&mut self, barcode: &[u8]) {
+        let mut string = barcode.to_vec();
+        for conversion in [CONVERSIONS[0], CONVERSIONS[1], CONVERSIONS[0]] {
+            let answer = self
+                .paper
+                .answer(conversion, &string, conversion.result_digits());
+            self.ask_with_room(conversion, string);
+            string = answer.memory.unwrap_or_default();
+        }
+    }
+
+    fn changed_places(&mut self, conversion: Conversion, string: &[u8]) {
+        for at in 0..string.len() {
+            for byte in DIGITS
+                .iter()
+                .chain(NON_DIGITS)
+                .filter(|byte| **byte != string[at])
+            {
+                let mut changed = string.to_vec();
+                changed[at] = *byte;
+                self.ask_with_room(conversion, changed);
+            }
+        }
+    }
+
+    /// Neighbours swapped, a digit lost, a digit doubled; a digit that takes
+    /// the place of a lost one keeps the length and so reaches the later checks.
+    fn moved_digits(&mut self, conversion: Conversion, string: &[u8]) {
+        for at in 0..string.len() {
+            let mut lost = string.to_vec();
+            lost.remove(at);
+            let mut doubled = string.to_vec();
+            doubled.insert(at, string[at]);
+            let mut lost_and_filled = lost.clone();
+            lost_and_filled.push(b'0');
+            let mut doubled_and_cut = doubled.clone();
+            doubled_and_cut.pop();
+            let mut swapped = string.to_vec();
+            swapped.swap(at, (at + 1) % string.len());
+            for moved in [lost, doubled, lost_and_filled, doubled_and_cut, swapped] {
+                self.ask_with_room(conversion, moved);
+            }
+        }
+    }
+
+    /// Each remainder that gives check 1, with every digit in the check's place.
+    fn remainders_of_check_one(&mut self) {
+        for remainder in REMAINDERS_OF_CHECK_ONE {
+            for _ in 0..BARCODES_PER_REMAINDER {
+                let paper = &self.paper;
+                let fits = |barcode: &[u8]| paper.general_remainder(barcode) == remainder;
+                let mut barcode = checked_barcode_that(self.random, paper, fits);
+                for check in DIGITS {
+                    barcode[BARCODE_CHECK_PLACE - 1] = *check;
+                    for (conversion, string) in self.both_strings(&barcode) {
+                        self.ask_with_room(conversion, string);
+                    }
+                }
+            }
+        }
+    }
+
+    fn lengths(&mut self) {
+        for conversion in CONVERSIONS {
+            for length in 0..=LONGEST_SHORT_STRING {
+                for (_, mut string) in self.both_strings(PAPER_BARCODE) {
+                    string.resize(length, b'0');
+                    self.ask_with_room(conversion, string);
+                }
+                self.ask_with_room(conversion, vec![b'x'; length]);
+                self.ask(conversion, 0, vec![b'9'; length]);
+            }
+        }
+    }
+
+    fn large_requests(&mut self) {
+        for (conversion, string) in self.both_strings(PAPER_BARCODE) {
+            for length in LARGE_LENGTHS {
+                let mut long = string.clone();
+                long.resize(length, b'0');
+                self.ask_with_room(conversion, long);
+            }
+            for room in LARGE_ROOMS {
+                self.ask(conversion, room, string.clone());
+                self.ask(conversion, room, Vec::new());
+            }
+        }
+        let everything = vec![b'9'; BYTES_LIMIT];
+        self.ask(Conversion::LineToBarcode, BYTES_LIMIT, everything);
+    }
+
+    fn unlikely_strings(&mut self) {
+        for conversion in CONVERSIONS {
+            let length = conversion.given_digits();
+            for byte in DIGITS.iter().chain(NON_DIGITS) {
+                self.ask_with_room(conversion, vec![*byte; length]);
+            }
+            for _ in 0..RANDOM_STRINGS {
+                let bytes = (0..length).map(|_| self.random.byte()).collect();
+                self.ask_with_room(conversion, bytes);
+                let mut numerals = digits(self.random, length);
+                self.ask_with_room(conversion, numerals.clone());
+                numerals[CURRENCY_PLACE - 1] = CURRENCY;
+                self.ask_with_room(conversion, numerals);
+            }
+        }
+    }
+
+    /// Every combination of flaws, so that the order of refusals is tested.
+    fn several_flaws(&mut self) {
+        for conversion in CONVERSIONS {
+            let repeats = match conversion {
+                Conversion::BarcodeToLine => REPEATS_PER_BARCODE_FLAWS,
+                Conversion::LineToBarcode => REPEATS_PER_LINE_FLAWS,
+            };
+            for flaws in all_flaw_sets(conversion) {
+                for _ in 0..repeats {
+                    let string = self.string_with(conversion, flaws);
+                    let room = self.room_with(conversion, flaws);
+                    self.ask(conversion, room, string);
+                }
+            }
+        }
+    }
+
+    /// The currency is changed before the checks are made, and the checks are
+    /// changed alone, so that no flaw brings another one along.
+    fn string_with(&mut self, conversion: Conversion, flaws: FlawSet) -> Vec<u8> {
+        let mut barcode = unchecked_barcode(self.random);
+        if flaws.has(WRONG_CURRENCY) {
+            barcode[CURRENCY_PLACE - 1] = self.random.other_digit(CURRENCY);
+        }
+        set_general_check(&mut barcode, &self.paper);
+        let mut string = match conversion {
+            Conversion::BarcodeToLine => barcode,
+            Conversion::LineToBarcode => self.paper.line_of(&barcode),
+        };
+        let field_flaws = WRONG_FIELD_CHECKS.into_iter().zip(FIELD_CHECK_PLACES);
+        let general_flaw = (WRONG_GENERAL_CHECK, conversion.check_place());
+        for (flaw, place) in field_flaws.chain([general_flaw]) {
+            if flaws.has(flaw) {
+                string[place - 1] = self.random.other_digit(string[place - 1]);
+            }
+        }
+        if flaws.has(WITH_NON_DIGIT) {
+            self.put_non_digit(&mut string);
+        }
+        if flaws.has(WRONG_LENGTH) {
+            self.spoil_length(&mut string);
+        }
+        string
+    }
+
+    /// Before the currency's place as often as behind it.
+    fn put_non_digit(&mut self, string: &mut [u8]) {
+        let place = if self.random.coin() {
+            self.random.between(1, CURRENCY_PLACE - 1)
+        } else {
+            self.random.between(CURRENCY_PLACE + 1, string.len())
+        };
+        string[place - 1] = self.random.pick(NON_DIGITS);
+    }
+
+    /// One digit too few or too many, or the length of the other string.
+    fn spoil_length(&mut self, string: &mut Vec<u8>) {
+        let length = string.len();
+        let other = if length == BARCODE_DIGITS {
+            LINE_DIGITS
+        } else {
+            BARCODE_DIGITS
+        };
+        let spoiled = self.random.pick(&[0, 1, length - 1, length + 1, other]);
+        string.resize(spoiled, b'0');
+    }
+
+    fn room_with(&mut self, conversion: Conversion, flaws: FlawSet) -> usize {
+        let needed = conversion.result_digits();
+        if flaws.has(SMALL_ROOM) {
+            self.random.pick(&[0, 1, needed - 1])
+        } else {
+            needed + self.random.pick(&SPARE_ROOMS)
+        }
+    }
+
+    /// Changes at random places of accepted strings, with random rooms.
+    fn several_changes(&mut self, barcodes: &[Vec<u8>]) {
+        for _ in 0..STRINGS_WITH_SEVERAL_CHANGES {
+            let chosen = self.random.below(barcodes.len());
+            for (conversion, mut string) in self.both_strings(&barcodes[chosen]) {
+                for _ in 0..self.random.between(2, MOST_CHANGES) {
+                    let at = self.random.below(string.len());
+                    let rarely = self.random.below(NON_DIGIT_ONCE_IN) == 0;
+                    let choices = if rarely { NON_DIGITS } else { DIGITS };
+                    string[at] = self.random.pick(choices);
+                }
+                let room = self.random.pick(&ROOMS);
+                self.ask(conversion, room, string);
+            }
+        }
+    }
+}

@@ -1,0 +1,110 @@
+//! The second program: written from document 01 alone, it asks the payment
+//! desk's probe many questions and compares every reply with its own answer.
+//!
+//! Build: `rustc -O --edition 2021 main.rs -o second`
+
+mod cases;
+mod compare;
+mod digit_cases;
+mod digit_strings;
+mod faults;
+mod paper_claims;
+mod probe;
+mod random;
+mod tally;
+
+use std::env;
+use std::process::ExitCode;
+
+use compare::Difference;
+use faults::Fault;
+use tally::Tally;
+
+const USAGE: &str = "usage: second PROGRAM [ARGS..]
+       second --fault NAME PROGRAM [ARGS..]
+       second --faults";
+
+fn main() -> ExitCode {
+    let arguments: Vec<String> = env::args().skip(1).collect();
+    match run(&arguments) {
+        Ok(()) => ExitCode::SUCCESS,
+        Err(message) => {
+            eprintln!("{message}");
+            ExitCode::FAILURE
+        }
+    }
+}
+
+fn run(arguments: &[String]) -> Result<(), String> {
+    match arguments.first().map(String::as_str) {
+        Some("--faults") if arguments.len() == 1 => {
+            faults::names().for_each(|name| println!("{name}"));
+            Ok(())
+        }
+        Some("--fault") if arguments.len() > 2 => {
+            let name = &arguments[1];
+            let fault = faults::by_name(name).ok_or_else(|| format!("no fault is named {name}"))?;
+            catch_fault(name, fault, &arguments[2..])
+        }
+        Some(program) if !program.starts_with("--") => check_program(arguments),
+        _ => Err(USAGE.to_string()),
+    }
+}
+
+fn check_program(command: &[String]) -> Result<(), String> {
+    let barcodes = cases::accepted_barcodes();
+    let guarded = paper_claims::check(&barcodes)?;
+    let mut tally = Tally::default();
+    if let Some(difference) = first_difference(command, &barcodes, None, &mut tally)? {
+        return Err(difference.to_string());
+    }
+    println!(
+        "changed digits at guarded places, all refused: {}",
+        guarded.guarded_refused
+    );
+    println!(
+        "changed digits at unguarded places, accepted: {} in barcodes, {} in lines",
+        guarded.unguarded_accepted_in_barcodes, guarded.unguarded_accepted_in_lines
+    );
+    println!("{tally}");
+    let gaps = tally.gaps();
+    if !gaps.is_empty() {
+        return Err(gaps.join("\n"));
+    }
+    println!("second: {} requests agree", tally.requests());
+    Ok(())
+}
+
+/// A fault is caught only by a reply that is right by document 01; any other
+/// difference is the program's own and says nothing about the fault.
+fn catch_fault(name: &str, fault: Fault, command: &[String]) -> Result<(), String> {
+    let barcodes = cases::accepted_barcodes();
+    let difference = first_difference(command, &barcodes, Some(fault), &mut Tally::default())?;
+    let difference = difference.ok_or_else(|| format!("fault {name} was not caught"))?;
+    if let Difference::Reply {
+        number,
+        request,
+        came,
+        ..
+    } = &difference
+    {
+        if compare::expected_answer(request, None).as_reply() == *came {
+            println!("fault {name} caught at request {number}");
+            return Ok(());
+        }
+    }
+    Err(format!(
+        "the program differs from document 01 itself: {difference}"
+    ))
+}
+
+fn first_difference(
+    command: &[String],
+    barcodes: &[Vec<u8>],
+    fault: Option<Fault>,
+    tally: &mut Tally,
+) -> Result<Option<Difference>, String> {
+    let streams = cases::streams(barcodes);
+    compare::first_difference(command, &streams, fault, tally)
+        .map_err(|error| format!("cannot talk to {}: {error}", command[0]))
+}
