@@ -7,18 +7,18 @@ use Rattle.answer.specs.Rules.{Rule, rule}
 use Rattle.digits.specs.Digits.{digitByte, leading, allDigits, place, places}
 use Rattle.digits.specs.Checks.{sealed}
 use Rattle.digits.specs.declared.sealing.Modulus.the-variants.{Ten, Eleven}
-use Rattle.boleto.specs.Strings.{barcodeDigits, lineDigits, barcodeOf}
+use Rattle.boleto.specs.Strings.{barcodeDigits, lineDigits, currencyPlace, barcodeCheck, lineCheck, barcodeOf}
 
 -- a string of n digits: its length, its first non-digit, its currency 9
 unfoldable pub headRules : ℕ → List ℕ → List Rule
 headRules n bs =
     rule 40 0 (eqb (length bs) n)
     ∷ rule 41 (leading bs + 1) (allDigits bs)
-    ∷ rule 43 4 (eqb (place 4 bs) (digitByte 9))
+    ∷ rule 43 currencyPlace (eqb (place currencyPlace bs) (digitByte 9))
     ∷ []
 
 unfoldable pub barcodeRules : List ℕ → List Rule
-barcodeRules bar = headRules barcodeDigits bar ++ rule 44 5 (sealed Eleven 5 bar) ∷ []
+barcodeRules bar = headRules barcodeDigits bar ++ rule 44 barcodeCheck (sealed Eleven barcodeCheck bar) ∷ []
 
 -- a field of the line, from place a to its check digit at place b
 abbrev pub fieldRule : ℕ → ℕ → List ℕ → Rule
@@ -30,7 +30,7 @@ checkRules line =
     fieldRule 1 10 line
     ∷ fieldRule 11 21 line
     ∷ fieldRule 22 32 line
-    ∷ rule 44 33 (sealed Eleven 5 (barcodeOf line))
+    ∷ rule 44 lineCheck (sealed Eleven barcodeCheck (barcodeOf line))
     ∷ []
 
 unfoldable pub lineRules : List ℕ → List Rule

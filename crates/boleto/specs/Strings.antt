@@ -13,6 +13,16 @@ barcodeDigits = 44
 abbrev pub lineDigits : ℕ
 lineDigits = 47
 
+-- where the currency stands, in both strings, and the general check, in a barcode and in a line
+abbrev pub currencyPlace : ℕ
+currencyPlace = 4
+
+abbrev pub barcodeCheck : ℕ
+barcodeCheck = 5
+
+abbrev pub lineCheck : ℕ
+lineCheck = 33
+
 -- a field of the line: its digits with their check digit behind them
 abbrev pub checked : List ℕ → List ℕ
 checked bs = bs ++ digitByte (checkDigit Ten bs) ∷ []

@@ -13,7 +13,7 @@ ghost use lib.ListN.{length};
 ghost use Rattle.answer.specs.Rules.{firstBroken};
 ghost use Rattle.answer.specs.Output.{Writes};
 ghost use Rattle.digits.specs.Checks.{sealed};
-ghost use Rattle.boleto.specs.Strings.{barcodeDigits, lineDigits, lineOf, barcodeOf};
+ghost use Rattle.boleto.specs.Strings.{barcodeDigits, lineDigits, barcodeCheck, lineOf, barcodeOf};
 ghost use Rattle.boleto.specs.Rules.{headRules, barcodeRules, fieldRule, checkRules, lineRules};
 
 const BARCODE_DIGITS: usize = 44;
@@ -75,7 +75,7 @@ fn check_field(line: &[u8], first: usize, last: usize) -> Answer
 // The general check of a line is that of its barcode.
 fn general_fits(line: &[u8]) -> bool
     requires { ⌜ length (now line) ≡ lineDigits ⌝ }
-    ensures { λ r. ⌜ r ≡ sealed Modulus.Eleven 5 (barcodeOf (now (line .entry))) ⌝ }
+    ensures { λ r. ⌜ r ≡ sealed Modulus.Eleven barcodeCheck (barcodeOf (now (line .entry))) ⌝ }
 {
     let mut bar = [0u8; BARCODE_DIGITS];
     write_barcode(line, &mut bar);

@@ -24,13 +24,6 @@ leading (b ∷ bs) = cond (digit? b) (suc (leading bs)) 0
 abbrev pub allDigits : List ℕ → Bool
 allDigits bs = eqb (leading bs) (length bs)
 
--- a byte is a digit; every byte of a string is one
-abbrev pub Digit : ℕ → Type 0
-Digit b = (48 ≤ b) × (b ≤ 57)
-
-pub record Digits (bs : List ℕ) : Type 0 where
-  pub each : (i : ℕ) → i < length bs → Digit (getD bs i 0)
-
 -- the bytes at the places a to b, both included
 abbrev pub places : ℕ → ℕ → List ℕ → List ℕ
 places a b bs = take (b - (a - 1)) (drop (a - 1) bs)

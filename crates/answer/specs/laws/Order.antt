@@ -4,7 +4,6 @@ use mathlib.Core.Bool.{Bool, true, false, cond}
 use mathlib.Core.List.{List, [], _∷_, _++_, map}
 use Prim.Native.Nat.{ℕ}
 use native.Mathlib.Omega.{arith}
-use borrow.Author.Tests.{eq-eqb, ne-eqb}
 use Rattle.answer.specs.Rules.{Rule, rule, firstBroken, AllKept, Broken, Allowed, accepted, refused, refusedAs, andThen, onLine, ruleOnLine}
 use Rattle.answer.specs.declared.LineNo.{LineNo}
 use Rattle.answer.specs.declared.Refusal.{Refusal}
@@ -53,6 +52,10 @@ refused-broken (x ∷ rs) r e = go (x .kept) refl (refused-broken rs r) e
     go false q rest e = let same : x .refused ≡ r = cc in record { earlier = []; later = rs; are = rw (← same, ← q); all-kept = tt }
 
 -- ---- there is one answer
+
+-- a contract that equates the result with a definition allows one result
+pub determined : {A : Type 0} {a b c : A} → a ≡ c → b ≡ c → a ≡ b
+determined p q = p ∙ sym q
 
 pub first-allowed : (rs : List Rule) → Allowed rs (firstBroken rs)
 first-allowed rs = go (firstBroken rs) refl
@@ -120,5 +123,3 @@ front-accepted xs ys e = go (firstBroken xs) (sym (first-append xs ys) ∙ e)
     go : (a : Answer) → andThen a (firstBroken ys) ≡ Accepted → a ≡ Accepted
     go Accepted q = refl
     go (Refused r) q = q
-
-pub ruleset broken = (past, here, done, eq-eqb, ne-eqb)

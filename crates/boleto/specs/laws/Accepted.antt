@@ -7,8 +7,8 @@ use borrow.Author.Tests.{eq-eqb, eqb-true}
 use Rattle.answer.specs.Rules.{firstBroken, AllKept}
 use Rattle.answer.specs.laws.Order.{kept-accepted, accepted-kept}
 use Rattle.answer.specs.declared.Answer.the-variants.{Accepted}
-use Rattle.digits.specs.Digits.{Digits, digitByte, place, places}
-use Rattle.digits.specs.laws.Strings.{leading-all, all-leading}
+use Rattle.digits.specs.Digits.{digitByte, place, places}
+use Rattle.digits.specs.laws.Strings.{Digits, leading-all, all-leading}
 use Rattle.digits.specs.laws.Seals.{Sealed}
 use Rattle.digits.specs.declared.sealing.Modulus.the-variants.{Ten, Eleven}
 use Rattle.boleto.specs.Strings.{barcodeDigits, lineDigits, barcodeOf}

@@ -11,11 +11,11 @@ use lib.Seq.{getD-set-same, set-append-left, set-getD, getD-append-seam, getD-ap
 use lib.Dec.{T, eqb, eqb→eq, not-T}
 use Rattle.answer.specs.Rules.{firstBroken}
 use Rattle.answer.specs.declared.Answer.the-variants.{Accepted}
-use Rattle.digits.specs.Digits.{Digit, Digits, place}
-use Rattle.digits.specs.laws.Strings.{part-set, part-kept, part-getD, set-append-right}
+use Rattle.digits.specs.Digits.{digitByte, place}
+use Rattle.digits.specs.laws.Strings.{Digit, Digits, part-set, part-kept, part-getD, set-append-right}
 use Rattle.digits.specs.laws.Seals.{Sealed, one-change, neighbours}
 use Rattle.digits.specs.declared.sealing.Modulus.the-variants.{Ten, Eleven}
-use Rattle.boleto.specs.Strings.{barcodeDigits, lineDigits, barcodeOf}
+use Rattle.boleto.specs.Strings.{barcodeDigits, lineDigits, barcodeCheck, lineCheck, barcodeOf}
 use Rattle.boleto.specs.Rules.{barcodeRules, lineRules}
 use Rattle.boleto.specs.Guarded.{GuardedInBarcode, GuardedInLine, all, currency, check, checked, rest}
 use Rattle.boleto.specs.laws.Accepted.{Barcode, Line, barcode-of, line-of}
@@ -25,7 +25,7 @@ use Rattle.boleto.specs.laws.Conversions.{barcode-long}
 abbrev sharp : ℕ → Type 0
 sharp b = T (not (eqb (b - 48) 1))
 
-sharp-of : (b : ℕ) → 48 ≤ b → b ≢ 49 → sharp b
+sharp-of : (b : ℕ) → 48 ≤ b → b ≢ digitByte 1 → sharp b
 sharp-of b lo ne = not-T (eqb (b - 48) 1) (λ t. ne (omega (arith, eqb→eq (b - 48) 1 t)))
 
 -- a byte stored among digits is a digit
@@ -54,7 +54,7 @@ barcode-change bar p v e check ne e′ =
     ne (barcode-same bar 4 v (barcode-of bar e) (barcode-of (set bar 4 v) e′) (omega arith) (λ n. absurd (n (omega arith))))
 
 -- two unequal neighbours swapped, neither of them the check digit, are refused when it isn't 1
-pub barcode-neighbours : (xs zs : List ℕ) (a b : ℕ) → firstBroken (barcodeRules (xs ++ a ∷ b ∷ zs)) ≡ Accepted → place 5 (xs ++ a ∷ b ∷ zs) ≢ 49 →
+pub barcode-neighbours : (xs zs : List ℕ) (a b : ℕ) → firstBroken (barcodeRules (xs ++ a ∷ b ∷ zs)) ≡ Accepted → place barcodeCheck (xs ++ a ∷ b ∷ zs) ≢ digitByte 1 →
     (length xs < 3) ⊎ (4 < length xs) → a ≢ b → firstBroken (barcodeRules (xs ++ b ∷ a ∷ zs)) ≢ Accepted
 barcode-neighbours xs zs a b e f w ne e′ =
     let c = barcode-of (xs ++ a ∷ b ∷ zs) e in
@@ -93,7 +93,7 @@ tail-getD l i h lo up =
     ap (λ (x : List ℕ). getD x (i - 28) 0) (ap barcodeOf (sym (set-getD l i 0)) ∙ tail l i (getD l i 0) h lo up)
     ∙ getD-set-same (barcodeOf l) (i - 28) (getD l i 0) 0 (omega arith)
 
-module _ (l : List ℕ) (i v : ℕ) (a : Line l) (a′ : Line (set l i v)) (h : i < lineDigits) (f : 33 ≤ i → place 33 l ≢ 49) where
+module _ (l : List ℕ) (i v : ℕ) (a : Line l) (a′ : Line (set l i v)) (h : i < lineDigits) (f : lineCheck ≤ i → place lineCheck l ≢ digitByte 1) where
   general-same : 32 ≤ i → v ≡ getD l i 0
   general-same lo =
       let b = barcode-long l (a .long) in
@@ -109,7 +109,7 @@ module _ (l : List ℕ) (i v : ℕ) (a : Line l) (a′ : Line (set l i v)) (h : 
   line-same (no p) (no q) (yes r) = field-same l 21 10 i v (omega arith) (omega arith) (omega arith) (a .digits) (a′ .digits) (a .third) (a′ .third)
   line-same (no p) (no q) (no r) = general-same (omega arith)
 
-sharp-rest : (l : List ℕ) (p : ℕ) → GuardedInLine l p → (1 ≤ p) × (p ≤ lineDigits) × (33 ≤ p - 1 → place 33 l ≢ 49)
+sharp-rest : (l : List ℕ) (p : ℕ) → GuardedInLine l p → (1 ≤ p) × (p ≤ lineDigits) × (lineCheck ≤ p - 1 → place lineCheck l ≢ digitByte 1)
 sharp-rest l p (checked lo up) = (lo, omega arith, λ h. absurd (omega arith))
 sharp-rest l p (rest f lo up) = (omega arith, up, λ h. f)
 

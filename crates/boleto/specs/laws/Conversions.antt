@@ -9,9 +9,9 @@ use Rattle.answer.specs.Output.{Writes}
 use Rattle.answer.specs.laws.Frame.{was-accepted, handed-on}
 use Rattle.answer.specs.declared.Answer.{Answer}
 use Rattle.answer.specs.declared.Answer.the-variants.{Accepted}
-use Rattle.digits.specs.Digits.{Digits, digitByte, places}
+use Rattle.digits.specs.Digits.{digitByte, places}
 use Rattle.digits.specs.Checks.{checkDigit}
-use Rattle.digits.specs.laws.Strings.{tab, spelled-out, digits-nil, digits-cons, digits-append, digits-take, digits-drop}
+use Rattle.digits.specs.laws.Strings.{Digits, tab, spelled-out, digits-nil, digits-cons, digits-append, digits-take, digits-drop}
 use Rattle.digits.specs.laws.Seals.{Sealed, check-small}
 use Rattle.digits.specs.declared.sealing.Modulus.the-variants.{Ten}
 use Rattle.boleto.specs.Strings.{barcodeDigits, lineDigits, lineOf, barcodeOf}

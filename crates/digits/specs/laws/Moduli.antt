@@ -9,12 +9,12 @@ use native.Mathlib.Omega.{arith}
 use lib.Dec.{T, eqb, leb, eqb→eq, leb→le, not-T, T-not, lit<}
 use borrow.Author.Tests.{eq-eqb}
 use lib.ListN.{length}
-use Rattle.digits.specs.Digits.{digitOf, Digit, weighed}
+use Rattle.digits.specs.Digits.{digitOf, weighed}
 use Rattle.digits.specs.Checks.{base, weight, counts, lift}
 use Rattle.digits.specs.declared.sealing.Modulus.{Modulus}
 use Rattle.digits.specs.declared.sealing.Modulus.the-variants.{Ten, Eleven}
 use Rattle.digits.specs.laws.Tests.{every, every-at, apart, apart-at, or-left}
-use Rattle.digits.specs.laws.Strings.{digit-small, same-digit}
+use Rattle.digits.specs.laws.Strings.{Digit, digit-small, same-digit}
 use Rattle.digits.specs.laws.Sums.{replaced, one, two}
 
 -- ---- what weights must do, and what follows for a string of any length

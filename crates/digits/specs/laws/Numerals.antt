@@ -11,10 +11,10 @@ use borrow.Author.Tests.{lt-ltb, le-ltb, le-leb, leb-true, eq-eqb, eqb-true, ne-
 use lib.Arith.{digits-lt, digits-div, digits-mod}
 use lib.Dec.{leb, eqb}
 use lib.ListN.{length, length-append, length-replicate, getD, drop, replicate}
-use Rattle.digits.specs.Digits.{digitOf, digitByte, Digit, leading, weighed, Digits}
+use Rattle.digits.specs.Digits.{digitOf, digitByte, leading, weighed}
 use Rattle.digits.specs.Numbers.{number, mostDigits, numberOf, lastDigits, star, numeral}
 use Rattle.digits.specs.declared.spelling.Number.the-variants.{Is, Not}
-use Rattle.digits.specs.laws.Strings.{digit-small, digit-value, same-digit, digits-nil, digits-cons, digits-append, head, rest, leading-all, all-leading}
+use Rattle.digits.specs.laws.Strings.{Digit, Digits, digit-small, digit-value, same-digit, digits-nil, digits-cons, digits-append, head, rest, leading-all, all-leading}
 use Rattle.digits.specs.laws.Sums.{weighed-drop}
 
 -- ---- the number that a string spells

@@ -11,11 +11,11 @@ use native.Mathlib.Omega.{arith}
 use lib.ListN.{length, getD, take, drop, set, length-append}
 use lib.Seq.{length-take-le, split-at, set-split, getD-set-same, take-set-le, drop-set-lt}
 use lib.Dec.{T}
-use Rattle.digits.specs.Digits.{digitOf, digitByte, Digit, weighed, behind}
+use Rattle.digits.specs.Digits.{digitOf, digitByte, weighed, behind}
 use Rattle.digits.specs.Checks.{base, counts, checkDigit}
 use Rattle.digits.specs.declared.sealing.Modulus.{Modulus}
 use Rattle.digits.specs.declared.sealing.Modulus.the-variants.{Eleven}
-use Rattle.digits.specs.laws.Strings.{digit-small, same-digit}
+use Rattle.digits.specs.laws.Strings.{Digit, digit-small, same-digit}
 use Rattle.digits.specs.laws.Sums.{replaced, one, two}
 use Rattle.digits.specs.laws.Moduli.{base-pos, checks-tell, eleven-tells-neighbours, firm, blind, lift-small}
 

@@ -9,10 +9,17 @@ use lib.ListN.{length, getD, take, drop, set}
 use lib.Seq.{getD-take, getD-drop, drop-cons, drop-set-add, take-set-lt, take-set-le}
 use lib.Dec.{T, leb, leb→le}
 use borrow.Author.Tests.{le-leb}
-use Rattle.digits.specs.Digits.{digit?, digitOf, Digit, leading, Digits}
+use Rattle.digits.specs.Digits.{digit?, digitOf, leading}
 use Rattle.digits.specs.laws.Tests.{both}
 
 -- ---- one digit
+
+-- a byte is a digit; every byte of a string is one
+abbrev pub Digit : ℕ → Type 0
+Digit b = (48 ≤ b) × (b ≤ 57)
+
+pub record Digits (bs : List ℕ) : Type 0 where
+  pub each : (i : ℕ) → i < length bs → Digit (getD bs i 0)
 
 pub digit-is : (b : ℕ) → digit? b ≡ true → Digit b
 digit-is b q = let t = both (leb 48 b) (leb b 57) (subst T (sym q) tt) in (leb→le 48 b (t .0), leb→le b 57 (t .1))
