@@ -16,6 +16,11 @@ const LAST_TRIED: u64 = 2200;
 
 const TIMES_TRIED: u64 = 1000000;
 
+// DDMM0000
+const LAST_OF_DECEMBER: u64 = 31120000;
+
+const FIRST_OF_MARCH: u64 = 1030000;
+
 fn spaced(n: u64) {
     io::write_all(STDOUT_FILENO, b" ");
     io::print_decimal(STDOUT_FILENO, n);
@@ -66,8 +71,8 @@ fn print_year(year: u64)
 {
     io::print_decimal(STDOUT_FILENO, year);
     spaced(dates_in(year));
-    spaced(Date::of(31120000 + year).day_number());
-    spaced(Date::of(1030000 + year).due_factor());
+    spaced(Date::of(LAST_OF_DECEMBER + year).day_number());
+    spaced(Date::of(FIRST_OF_MARCH + year).due_factor());
     io::write_all(STDOUT_FILENO, b"\n");
 }
 

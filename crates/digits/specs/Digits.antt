@@ -1,7 +1,7 @@
 -- Digit strings: lists of bytes, 48 to 57 being the digits 0 to 9. Places count from 1. Assumes nothing.
 use mathlib.Core.Bool.{Bool, cond, _&&_}
 use mathlib.Core.List.{List, [], _∷_, _++_}
-use Prim.Native.Nat.{ℕ, suc, _+_, _-_, _≤_, _<_}
+use Prim.Native.Nat.{ℕ, suc, _+_, _-_}
 use lib.Dec.{leb, eqb}
 use lib.ListN.{length, getD, take, drop}
 
@@ -40,7 +40,3 @@ without p bs = take (p - 1) bs ++ drop p bs
 unfoldable pub weighed : (ℕ → ℕ → ℕ) → List ℕ → ℕ
 weighed f [] = 0
 weighed f (b ∷ bs) = f (length bs) (digitOf b) + weighed f bs
-
--- the same for digits that have n more behind them
-abbrev pub behind : ℕ → (ℕ → ℕ → ℕ) → ℕ → ℕ → ℕ
-behind n f k d = f (k + n) d

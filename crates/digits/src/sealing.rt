@@ -4,7 +4,8 @@ ghost use mathlib.Core.Path.{_≡_};
 ghost use mathlib.Core.List.{_++_};
 ghost use Prim.Native.Nat.{_+_, _%_, _^_, _<_, _≤_};
 ghost use lib.ListN.{length};
-ghost use Rattle.digits.specs.Digits.{digitByte, weighed, behind};
+ghost use Rattle.digits.specs.Digits.{digitByte, weighed};
+ghost use Rattle.digits.specs.Steps.{behind, Reduced};
 ghost use Rattle.digits.specs.Checks.{base, counts, lift, checkDigit, sealed};
 
 // Ten: weights 2, 1, 2 .. and the digits of each product added. Eleven: weights 2 to 9, repeating.
@@ -41,7 +42,7 @@ fn count(m: Modulus, k: usize, d: u64) -> u64
 
 // A number with the same remainder that leaves room for what a digit counts.
 fn reduced(m: Modulus, sum: u64) -> u64
-    ensures { λ r. ⌜ (r % base m ≡ sum % base m) × (r < 1000000) ⌝ }
+    ensures { λ r. ⌜ Reduced (base m) sum r ⌝ }
 {
     if sum < LARGE { sum } else { sum % base_of(m) }
 }

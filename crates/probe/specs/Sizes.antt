@@ -4,7 +4,11 @@ use Prim.Native.Nat.{ℕ, _≤_}
 use Rattle.digits.specs.declared.spelling.Number.{Number}
 use Rattle.digits.specs.declared.spelling.Number.the-variants.{Is}
 
--- the most that six digits can announce, and the most that a call takes
+-- how many digits announce a number
+abbrev pub announcedDigits : ℕ
+announcedDigits = 6
+
+-- the most that they can announce, and the most that a call takes
 abbrev pub mostAnnounced : ℕ
 mostAnnounced = 999999
 

@@ -3,7 +3,7 @@
 use digits::Number;
 ghost use Prim.Native.Nat.{_+_, _≤_};
 ghost use lib.ListN.{length};
-ghost use Rattle.probe.specs.Sizes.{mostAnnounced, mostBytes, Announced};
+ghost use Rattle.probe.specs.Sizes.{announcedDigits, mostAnnounced, mostBytes, Announced};
 
 // The most that a payload and output memory may have.
 const MOST_BYTES: u64 = 900000;
@@ -31,7 +31,7 @@ pub(crate) struct Header {
 
 // The number that six bytes announce, where they are digits.
 fn announced(head: &[u8], from: usize) -> Number
-    requires { ⌜ from + 6 ≤ length (now head) ⌝ }
+    requires { ⌜ from + announcedDigits ≤ length (now head) ⌝ }
     ensures { λ r. ⌜ Announced r ⌝ }
 {
     digits::number_of(&head[from..from + DIGITS])

@@ -7,7 +7,8 @@ use native.Mathlib.Numerals.{one-add}
 use native.Mathlib.Omega.{arith}
 use lib.ListN.{length, length-append, getD, drop, length-drop}
 use lib.Seq.{drop-cons}
-use Rattle.digits.specs.Digits.{digitOf, weighed, behind}
+use Rattle.digits.specs.Digits.{digitOf, weighed}
+use Rattle.digits.specs.Steps.{behind}
 
 -- equal remainders, and the rest of two equal sums
 pub cancel : (M a b x y : ℕ) → a + y ≡ b + x → a % M ≡ b % M → x % M ≡ y % M

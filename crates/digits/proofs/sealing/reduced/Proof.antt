@@ -14,7 +14,7 @@ rem-result c = omega (arith, base-pos (c .before .before .args .m))
 returns-2 : tie.Need-returns-2
 returns-2 c =
     let a = c .before .before .args in
-    rw (c .base-of .ensures) (mod-mod _ _, omega (arith, rest-small (a .m) _ (a .sum) refl))
+    rw (c .base-of .ensures) (record { same = mod-mod _ _; small = omega (arith, rest-small (a .m) _ (a .sum) refl) })
 
 pub reduced-spec : {M : Type 1} → statement M
 reduced-spec = tie.close (tie.spec (λ c κs. search needs) rem-result (λ c. search needs) returns-2)

@@ -5,7 +5,8 @@ use native.Mathlib.Omega.{arith}
 use borrow.Author.Needs.{needs}
 use lib.ListN.{length, drop}
 use lib.Seq.{drop-length}
-use Rattle.digits.specs.Digits.{weighed, behind}
+use Rattle.digits.specs.Digits.{weighed}
+use Rattle.digits.specs.Steps.{behind}
 use Rattle.digits.specs.Checks.{base, counts}
 use Rattle.digits.specs.laws.Sums.{turn}
 use Rattle.digits.specs.laws.Moduli.{base-pos}
@@ -33,7 +34,7 @@ loop-again c =
     let l = c .before .before .before .before .before in
     let a = l .before .before .args in
     let r = c .before .before .before .reduced in
-    let t = turn (behind (a .right) (counts (a .m))) (base (a .m)) (a .s .now) (l .loop .i) (r .result) (omega arith) (omega arith) (r .ensures .0 ∙ l .loop .inv .2) in
+    let t = turn (behind (a .right) (counts (a .m))) (base (a .m)) (a .s .now) (l .loop .i) (r .result) (omega arith) (omega arith) (r .ensures .same ∙ l .loop .inv .2) in
     (omega arith, omega arith, rw (c .count .ensures, c .before .digit-of .ensures .0, l .loop .inv .1) t)
 
 rem-result : tie.Need-rem-result Inv-loop μ-loop
