@@ -8,7 +8,7 @@ use writing::write_barcode;
 use writing::write_line;
 ghost use mathlib.Core.Path.{_≡_};
 ghost use mathlib.Core.List.{_∷_, []};
-ghost use Prim.Native.Nat.{_≤_, _<_};
+ghost use Prim.Native.Nat.{_≤_};
 ghost use lib.ListN.{length};
 ghost use Rattle.answer.specs.Rules.{firstBroken};
 ghost use Rattle.answer.specs.Output.{Writes};

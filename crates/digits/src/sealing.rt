@@ -3,7 +3,6 @@ use super::digit_of;
 ghost use mathlib.Core.Path.{_≡_};
 ghost use mathlib.Core.List.{_++_};
 ghost use Prim.Native.Nat.{_+_, _%_, _^_, _<_, _≤_};
-ghost use lib.ListN.{length};
 ghost use Rattle.digits.specs.Digits.{digitByte, weighed};
 ghost use Rattle.digits.specs.Steps.{behind, Reduced};
 ghost use Rattle.digits.specs.Checks.{base, counts, lift, checkDigit, sealed};

@@ -8,7 +8,6 @@ mod reply;
 
 use header::Op;
 use libc::STDIN_FILENO;
-ghost use Prim.Native.Nat.{_≤_};
 ghost use mathlib.Core.Path.{_≡_};
 ghost use lib.ListN.{length};
 ghost use Rattle.probe.specs.Sizes.{mostAnnounced, mostBytes};
