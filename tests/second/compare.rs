@@ -28,8 +28,9 @@ pub enum Difference {
 /// What document 01 demands of a request; with a fault, what that mistake makes
 /// of it. Later ops are added here, each with its own rules.
 pub fn expected_answer(request: &Request, fault: Option<Fault>) -> Answer {
-    let Some(call) = request.call() else {
-        return Answer::malformed();
+    let call = match request.call() {
+        Some(call) => call,
+        None => return Answer::malformed(),
     };
     let digits = DigitRules::new(fault);
     let payload = &request.payload;

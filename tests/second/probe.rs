@@ -195,10 +195,9 @@ impl Conversation {
             .stdin(Stdio::piped())
             .stdout(Stdio::piped())
             .spawn()?;
-        let pipes = (child.stdin.take(), child.stdout.take());
-        let (Some(mut requests), Some(replies)) = pipes else {
-            return Err(io::Error::other("the program's pipes are missing"));
-        };
+        let missing = || io::Error::from(io::ErrorKind::BrokenPipe);
+        let mut requests = child.stdin.take().ok_or_else(missing)?;
+        let replies = child.stdout.take().ok_or_else(missing)?;
         // A thread of its own: with one thread both sides could wait on full pipes.
         let writer = thread::spawn(move || {
             // A program that stops reading shows in its replies, not here.
