@@ -5,6 +5,7 @@ ghost use mathlib.Core.List.{_∷_, []};
 ghost use Prim.Native.Nat.{_+_};
 ghost use lib.Dec.{leb, ltb};
 ghost use Rattle.answer.specs.Limits.{fileCents, fileRecords};
+ghost use Rattle.answer.specs.Output.{room};
 ghost use Rattle.answer.specs.Rules.{rule, refusedAs, firstBroken, andThen, onLine};
 
 pub struct Cents(pub u64);
@@ -27,6 +28,9 @@ pub enum Answer {
 
 // Digit strings and one record alone have no line.
 const NO_LINE: LineNo = LineNo(0);
+
+// The paper's number for output that is too short.
+const NO_ROOM: u8 = 50;
 
 const FILE_CENTS: Cents = Cents(1000000000000000000);
 
@@ -84,6 +88,13 @@ impl Answer {
         } else {
             Answer::refused(number, place)
         }
+    }
+
+    // Whether the output has room for n bytes.
+    pub fn room(n: usize, out: &[u8]) -> Answer
+        ensures { λ r. ⌜ r ≡ firstBroken (room n (now (out .entry)) ∷ []) ⌝ }
+    {
+        Answer::test(NO_ROOM, 0, n <= out.len())
     }
 
     // This answer where it refuses, else the later one.

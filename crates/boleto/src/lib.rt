@@ -38,8 +38,6 @@ const CURRENCY: u8 = 43;
 
 const GENERAL_CHECK: u8 = 44;
 
-const NO_ROOM: u8 = 50;
-
 // The rules that barcode and line share, for a string of n digits.
 fn check_head(s: &[u8], n: usize) -> Answer
     requires { ⌜ 4 ≤ n ⌝ }
@@ -108,16 +106,13 @@ pub fn check_line(line: &[u8]) -> Answer
 pub fn barcode_to_line(bar: &[u8], out: &mut [u8]) -> Answer
     ensures { λ r. ⌜ Writes (barcodeRules (now (bar .entry))) lineDigits (lineOf (now (bar .entry))) (now (out .entry)) r (now (out .exit)) ⌝ }
 {
-    let checked = check_barcode(bar);
-    match checked {
+    let answer = check_barcode(bar).and_then(Answer::room(LINE_DIGITS, out));
+    match answer {
         Answer::Accepted => {
-            if out.len() < LINE_DIGITS {
-                return Answer::refused(NO_ROOM, 0);
-            }
             write_line(bar, out);
-            Answer::Accepted
+            answer
         }
-        Answer::Refused(_) => checked,
+        Answer::Refused(_) => answer,
     }
 }
 
@@ -125,15 +120,12 @@ pub fn barcode_to_line(bar: &[u8], out: &mut [u8]) -> Answer
 pub fn line_to_barcode(line: &[u8], out: &mut [u8]) -> Answer
     ensures { λ r. ⌜ Writes (lineRules (now (line .entry))) barcodeDigits (barcodeOf (now (line .entry))) (now (out .entry)) r (now (out .exit)) ⌝ }
 {
-    let checked = check_line(line);
-    match checked {
+    let answer = check_line(line).and_then(Answer::room(BARCODE_DIGITS, out));
+    match answer {
         Answer::Accepted => {
-            if out.len() < BARCODE_DIGITS {
-                return Answer::refused(NO_ROOM, 0);
-            }
             write_barcode(line, out);
-            Answer::Accepted
+            answer
         }
-        Answer::Refused(_) => checked,
+        Answer::Refused(_) => answer,
     }
 }

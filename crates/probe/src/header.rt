@@ -1,12 +1,10 @@
 // The header of a request: op (1), record kind (1, '-' if unused), direction ('1', '2' or '-'), room
 // (6 digits), payload length (6 digits), LF.
+use super::MOST_BYTES;
 use digits::Number;
 ghost use Prim.Native.Nat.{_+_, _≤_};
 ghost use lib.ListN.{length};
 ghost use Rattle.probe.specs.Sizes.{announcedDigits, mostAnnounced, mostBytes, Announced};
-
-// The most that a payload and output memory may have.
-const MOST_BYTES: u64 = 900000;
 
 // Where room and length begin, how many digits they have, and where LF stands.
 const ROOM: usize = 3;
@@ -71,7 +69,8 @@ pub(crate) fn parse(head: &[u8; 16]) -> Header
     let Number::Is(room) = announced(head, ROOM) else {
         return malformed(length);
     };
-    if MOST_BYTES < length || MOST_BYTES < room || head[END] != b'\n' {
+    let most = MOST_BYTES as u64;
+    if most < length || most < room || head[END] != b'\n' {
         return malformed(length);
     }
     Header {

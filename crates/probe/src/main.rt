@@ -12,7 +12,8 @@ ghost use mathlib.Core.Path.{_≡_};
 ghost use lib.ListN.{length};
 ghost use Rattle.probe.specs.Sizes.{mostAnnounced, mostBytes};
 
-// The longest payload that a header can announce, and the most output memory of a call.
+// The longest payload that a header can announce, and the most that a payload and output memory may
+// have.
 const MOST_ANNOUNCED: usize = 999999;
 
 const MOST_BYTES: usize = 900000;

@@ -1,28 +1,39 @@
 -- Laws of calls that write to lent memory: the ways a call ends, and that its outcome is one. Assumes nothing.
-use mathlib.Core.Path.{_≡_, refl, sym, ap, _∙_}
-use mathlib.Core.List.{List, _++_}
-use Prim.Native.Nat.{ℕ, _<_, _≤_}
+use mathlib.Core.Path.{_≡_, sym, ap, _∙_}
+use mathlib.Core.List.{List, [], _∷_, _++_}
+use Prim.Native.Nat.{ℕ, _≤_}
 use lib.ListN.{length, take, drop}
 use lib.Seq.{take-at}
-use borrow.Author.Tests.{lt-leb, le-leb}
-use Rattle.answer.specs.Rules.{Rule, firstBroken, refusedAs}
-use Rattle.answer.specs.Output.{Writes, written}
-use Rattle.answer.specs.laws.Order.{past, here, done, gone-on, stopped, front-accepted}
+use borrow.Author.Tests.{le-leb, leb-true}
+use Rattle.answer.specs.Rules.{Rule, firstBroken, AllKept, andThen}
+use Rattle.answer.specs.Output.{Writes, written, room}
+use Rattle.answer.specs.laws.Order.{past, done, gone-on, accepted-kept, first-append, front-accepted}
 use Rattle.answer.specs.declared.Refusal.{Refusal}
 use Rattle.answer.specs.declared.Answer.{Answer}
 use Rattle.answer.specs.declared.Answer.the-variants.{Accepted, Refused}
 
-module _ (rules : List Rule) (n : ℕ) (new out : List ℕ) where
-  -- refused by its rules
-  pub keeps : (a : Answer) (r : Refusal) → a ≡ firstBroken rules → a ≡ Refused r → Writes rules n new out a out
-  keeps a r e is = record { answered = is ∙ stopped rules _ r (sym e ∙ is); memory = rw is }
+-- an answer by a call's rules and by the room of its output
+pub record Answers (rules : List Rule) (n : ℕ) (out : List ℕ) (a : Answer) : Type 0 where
+  pub is : a ≡ firstBroken (rules ++ room n out ∷ [])
 
-  -- refused for want of room
-  pub lacks : firstBroken rules ≡ Accepted → length out < n → Writes rules n new out (refusedAs 50 0) out
-  lacks e h = record { answered = here _ _ _ _ (lt-leb n (length out) h) ∙ gone-on rules _ e; memory = refl }
+pub answers : {rules : List Rule} {n : ℕ} {out : List ℕ} {a : Answer} (x y : Answer) →
+    x ≡ firstBroken rules → y ≡ firstBroken (room n out ∷ []) → a ≡ andThen x y → Answers rules n out a
+answers {rules} {n} {out} x y p q e = record { is = e ∙ rw (p, q) (sym (first-append rules (room n out ∷ []))) }
 
-  pub wrote : (after : List ℕ) → firstBroken rules ≡ Accepted → n ≤ length out → length new ≡ n → after ≡ new ++ drop n out → Writes rules n new out Accepted after
-  wrote after e h l w = record { answered = past _ _ _ _ _ (le-leb n (length out) h) done ∙ gone-on rules _ e; memory = rw l w }
+-- refused, the call leaves the output; accepted, its input keeps the rules, the output has room, and the call writes
+module _ {rules : List Rule} {n : ℕ} {out : List ℕ} {a : Answer} (e : Answers rules n out a) where
+  pub keeps : {new : List ℕ} (r : Refusal) → a ≡ Refused r → Writes rules n new out a out
+  keeps r q = record { answered = e .is; memory = rw q }
+
+  pub input-kept : a ≡ Accepted → firstBroken rules ≡ Accepted
+  input-kept q = front-accepted rules _ (sym (e .is) ∙ q)
+
+  pub has-room : a ≡ Accepted → n ≤ length out
+  unfolding AllKept
+  has-room q = leb-true _ _ (accepted-kept (room n out ∷ []) (gone-on rules _ (input-kept q) ∙ sym (e .is) ∙ q) .0)
+
+  pub writes : {new after : List ℕ} → a ≡ Accepted → length new ≡ n → after ≡ new ++ drop n out → Writes rules n new out a after
+  writes q l w = record { answered = e .is; memory = rw (q, l) w }
 
 -- what an accepted call was given, and what it left
 pub was-accepted : {rules : List Rule} {n : ℕ} {new out after : List ℕ} → Writes rules n new out Accepted after → firstBroken rules ≡ Accepted
