@@ -3,24 +3,32 @@
 
 use crate::digit_cases::{self, PAPER_BARCODE, PAPER_LINE};
 use crate::probe::{self, Header, Op, Request, BYTES_LIMIT, HEADER_BYTES, UNUSED};
-use crate::probe::{DIRECTION_AT, KIND_AT, OPS, OP_AT};
+use crate::probe::{DIRECTION_AT, KIND_AT, OP_AT};
 use crate::random::Random;
+use crate::record_kinds::{Direction, RecordKind, Subject};
+use crate::record_table::RECORD_BYTES;
+use crate::records::Values;
+use crate::{record_cases, record_write_cases};
 
 const BARCODE_SEED: u64 = 1;
 const DIGIT_STRING_SEED: u64 = 2;
 const MALFORMED_SEED: u64 = 3;
 const ORDER_SEED: u64 = 4;
+const RECORD_SEED: u64 = 6;
+const RECORD_WRITE_SEED: u64 = 7;
 
 /// Bytes that are wrong in some part of a header. None of them is a letter,
 /// so that later ops do not turn these requests into good ones.
 const HEADER_BYTES_TO_TRY: &[u8] = b"?+- /:\x00\xFF\r\n";
 const DIRECTIONS_TO_TRY: &[u8] = b"03x";
-/// Kinds of record as later ops may name them; digit strings have none.
-const KINDS_TO_TRY: &[u8] = b"AJ01";
+/// Kinds of record, which digit strings do not have, and bytes that name none.
+const KINDS_TO_TRY: &[u8] = b"AJ0134z";
 const HEADERS_WITH_SEVERAL_CHANGES: usize = 200;
 const MOST_HEADER_CHANGES: usize = 3;
 const LARGEST_SIX_DIGITS: usize = 999_999;
 const ROOM: usize = 50;
+/// A file trailer, but for the blanks behind it.
+const FILE_TRAILER: &[u8] = b"23799999         000001000006000000";
 
 /// Whole requests, and the bytes of one that is cut short (often none).
 pub struct Stream {
@@ -43,6 +51,9 @@ pub fn streams(barcodes: &[Vec<u8>]) -> Vec<Stream> {
 fn whole_stream(barcodes: &[Vec<u8>]) -> Stream {
     let mut random = Random::with_seed(DIGIT_STRING_SEED);
     let mut requests = digit_cases::requests(&mut random, barcodes);
+    requests.extend(record_cases::requests(&mut Random::with_seed(RECORD_SEED)));
+    let mut random = Random::with_seed(RECORD_WRITE_SEED);
+    requests.extend(record_write_cases::requests(&mut random));
     requests.extend(malformed_requests());
     Random::with_seed(ORDER_SEED).shuffle(&mut requests);
     Stream {
@@ -51,18 +62,27 @@ fn whole_stream(barcodes: &[Vec<u8>]) -> Stream {
     }
 }
 
-fn good_requests() -> [Request; 2] {
+fn good_requests() -> [Request; 4] {
+    let mut record = FILE_TRAILER.to_vec();
+    record.resize(RECORD_BYTES, b' ');
+    let kind = RecordKind::FileTrailer;
+    let direction = Direction::Remittance;
+    let subject = Subject { kind, direction };
+    let values = Values::of_record(kind, &record).to_payload();
     [
         Request::new(Op::BarcodeToLine, UNUSED, ROOM, PAPER_BARCODE.to_vec()),
         Request::new(Op::LineToBarcode, UNUSED, ROOM, PAPER_LINE.to_vec()),
+        Request::about_record(Op::ReadRecord, subject, 0, record),
+        Request::about_record(Op::WriteRecord, subject, RECORD_BYTES, values),
     ]
 }
 
 /// The few among them that stay well-formed are cases as good as any.
 fn malformed_requests() -> Vec<Request> {
     let mut random = Random::with_seed(MALFORMED_SEED);
-    let mut headers = headers_over_the_limit();
+    let mut headers = Vec::new();
     for good in good_requests() {
+        headers.extend(headers_over_the_limit(&good.header));
         headers.extend(headers_with_one_change(&good.header));
         for _ in 0..HEADERS_WITH_SEVERAL_CHANGES {
             headers.push(header_with_several_changes(&good.header, &mut random));
@@ -71,16 +91,23 @@ fn malformed_requests() -> Vec<Request> {
     headers.into_iter().map(with_bait).collect()
 }
 
-fn headers_over_the_limit() -> Vec<Header> {
+fn headers_over_the_limit(good: &Header) -> Vec<Header> {
     let mut headers = Vec::new();
-    for op in OPS {
-        for too_much in [BYTES_LIMIT + 1, LARGEST_SIX_DIGITS] {
-            headers.push(probe::header(op.code(), UNUSED, too_much, 0));
-            headers.push(probe::header(op.code(), UNUSED, too_much, PAPER_LINE.len()));
-            headers.push(probe::header(op.code(), UNUSED, ROOM, too_much));
+    for too_much in [BYTES_LIMIT + 1, LARGEST_SIX_DIGITS] {
+        headers.push(with_sizes(good, 0, too_much));
+        // The room of a request to read is not used, so no size of it is wrong.
+        if good[OP_AT] != Op::ReadRecord.code() {
+            headers.push(with_sizes(good, too_much, 0));
+            headers.push(with_sizes(good, too_much, PAPER_LINE.len()));
         }
     }
     headers
+}
+
+fn with_sizes(good: &Header, room: usize, length: usize) -> Header {
+    let mut header = probe::header(good[OP_AT], good[DIRECTION_AT], room, length);
+    header[KIND_AT] = good[KIND_AT];
+    header
 }
 
 fn headers_with_one_change(good: &Header) -> Vec<Header> {
@@ -125,13 +152,13 @@ fn with_bait(header: Header) -> Request {
 /// Headers cut at each length (0 is a stream that ends as it should), and
 /// payloads cut short, of good requests and of a malformed one.
 fn cut_streams() -> Vec<Stream> {
-    let [barcode, line] = good_requests();
+    let [barcode, line, read, write] = good_requests();
     let unknown_op = with_bait(changed(&barcode.header, OP_AT, b'?'));
     let mut streams = Vec::new();
     for kept in 0..HEADER_BYTES {
         streams.push(stream_cut_in(&barcode, kept));
     }
-    for request in [&barcode, &line, &unknown_op] {
+    for request in [&barcode, &line, &read, &write, &unknown_op] {
         let whole = HEADER_BYTES + request.payload.len();
         for kept in [HEADER_BYTES, HEADER_BYTES + 1, whole - 1] {
             streams.push(stream_cut_in(request, kept));

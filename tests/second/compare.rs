@@ -7,11 +7,12 @@ use std::io;
 use crate::cases::Stream;
 use crate::digit_strings::{Conversion, DigitRules};
 use crate::faults::Fault;
-use crate::probe::{Answer, Conversation, Op, Reply, Request};
+use crate::probe::{Answer, Call, Conversation, Reply, Request};
+use crate::record_rules::RecordRules;
 use crate::tally::Tally;
 
 /// Longer payloads and memories are shown only in part.
-const BYTES_SHOWN: usize = 120;
+const BYTES_SHOWN: usize = 760;
 
 pub enum Difference {
     /// A request, counted from 1 over all streams, was answered otherwise.
@@ -33,10 +34,13 @@ pub fn expected_answer(request: &Request, fault: Option<Fault>) -> Answer {
         None => return Answer::malformed(),
     };
     let digits = DigitRules::new(fault);
+    let records = RecordRules::new(fault);
     let payload = &request.payload;
-    match call.op {
-        Op::BarcodeToLine => digits.answer(Conversion::BarcodeToLine, payload, call.room),
-        Op::LineToBarcode => digits.answer(Conversion::LineToBarcode, payload, call.room),
+    match call {
+        Call::BarcodeToLine { room } => digits.answer(Conversion::BarcodeToLine, payload, room),
+        Call::LineToBarcode { room } => digits.answer(Conversion::LineToBarcode, payload, room),
+        Call::ReadRecord { subject } => records.read(subject, payload),
+        Call::WriteRecord { subject, room } => records.write(subject, payload, room),
     }
 }
 
@@ -65,8 +69,8 @@ fn difference_in(
     let mut conversation = Conversation::start(command, bytes_of(stream))?;
     for request in &stream.requests {
         let answer = expected_answer(request, fault);
-        let expected = answer.as_reply();
-        let came = conversation.next_reply(request.call().map(|call| call.room))?;
+        let came = conversation.next_reply(request.call())?;
+        let expected = answer.reply_beside(&came);
         tally.count(request, answer.verdict);
         if came != expected {
             let (number, request) = (tally.requests(), request.clone());
@@ -117,14 +121,8 @@ impl fmt::Display for Difference {
 }
 
 fn show_request(out: &mut fmt::Formatter, request: &Request) -> fmt::Result {
-    match request.call() {
-        Some(call) => writeln!(
-            out,
-            "  op {} room {}",
-            char::from(request.op_code()),
-            call.room
-        )?,
-        None => writeln!(out, "  malformed")?,
+    if request.call().is_none() {
+        writeln!(out, "  malformed")?;
     }
     writeln!(out, "  header   {}", shown(&request.header))?;
     writeln!(out, "  payload  {}", shown(&request.payload))

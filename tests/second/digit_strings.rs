@@ -1,7 +1,7 @@
 //! Boleto digit strings as document 01 describes them: the two checks, the two
 //! conversions, and the answer to each string and room.
 
-use crate::faults::Fault;
+use crate::faults::{move_before, Fault};
 use crate::probe::{Answer, Op, Verdict, UNTOUCHED};
 
 pub const BARCODE_DIGITS: usize = 44;
@@ -206,10 +206,7 @@ impl DigitRules {
         if verdict == Verdict::Accepted {
             self.write(&self.convert(conversion, given), &mut memory);
         }
-        Answer {
-            verdict,
-            memory: Some(memory),
-        }
+        Answer::with_memory(verdict, memory)
     }
 
     fn write(&self, result: &[u8], memory: &mut [u8]) {
@@ -311,15 +308,6 @@ impl DigitRules {
         };
         let wrong = self.general_check(&barcode) != barcode[BARCODE_CHECK_PLACE - 1];
         wrong.then_some((GENERAL_CHECK, place))
-    }
-}
-
-/// Nothing moves where the other row is not tested at all.
-fn move_before(rows: &mut Vec<Row>, moved: Row, other: Row) {
-    if rows.contains(&other) {
-        rows.retain(|row| *row != moved);
-        let target = rows.iter().take_while(|row| **row != other).count();
-        rows.insert(target, moved);
     }
 }
 

@@ -3,14 +3,24 @@
 //!
 //! Build: `rustc -O --edition 2021 main.rs -o second`
 
+mod calendar;
 mod cases;
 mod compare;
 mod digit_cases;
 mod digit_strings;
 mod faults;
+mod good_records;
 mod paper_claims;
 mod probe;
 mod random;
+mod record_cases;
+mod record_claims;
+mod record_flaws;
+mod record_kinds;
+mod record_rules;
+mod record_table;
+mod record_write_cases;
+mod records;
 mod tally;
 
 use std::env;
@@ -54,6 +64,7 @@ fn run(arguments: &[String]) -> Result<(), String> {
 fn check_program(command: &[String]) -> Result<(), String> {
     let barcodes = cases::accepted_barcodes();
     let guarded = paper_claims::check(&barcodes)?;
+    let fixed_refused = record_claims::check()?;
     let mut tally = Tally::default();
     if let Some(difference) = first_difference(command, &barcodes, None, &mut tally)? {
         return Err(difference.to_string());
@@ -66,6 +77,7 @@ fn check_program(command: &[String]) -> Result<(), String> {
         "changed digits at unguarded places, accepted: {} in barcodes, {} in lines",
         guarded.unguarded_accepted_in_barcodes, guarded.unguarded_accepted_in_lines
     );
+    println!("changed bytes at fixed places of records, all refused: {fixed_refused}");
     println!("{tally}");
     let gaps = tally.gaps();
     if !gaps.is_empty() {
@@ -88,7 +100,7 @@ fn catch_fault(name: &str, fault: Fault, command: &[String]) -> Result<(), Strin
         ..
     } = &difference
     {
-        if compare::expected_answer(request, None).as_reply() == *came {
+        if compare::expected_answer(request, None).reply_beside(came) == *came {
             println!("fault {name} caught at request {number}");
             return Ok(());
         }

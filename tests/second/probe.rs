@@ -3,8 +3,12 @@
 
 use std::fmt;
 use std::io::{self, BufRead, BufReader, Read, Write};
+use std::ops::Range;
 use std::process::{Child, ChildStdout, Command, Stdio};
 use std::thread::{self, JoinHandle};
+
+use crate::record_kinds::Subject;
+use crate::record_table::RECORD_BYTES;
 
 pub const HEADER_BYTES: usize = 16;
 /// Neither the lent memory nor the payload may be larger.
@@ -26,32 +30,37 @@ const DECIMAL: u32 = 10;
 /// The number of the reply to a malformed request; no row of document 01.
 pub const MALFORMED: u32 = 0;
 /// No reply line comes near this; it keeps a runaway reply from filling memory.
-const LONGEST_REPLY_LINE: u64 = 200;
+const LONGEST_REPLY_LINE: u64 = 400;
+/// How the line of an accepting reply begins.
+const ACCEPTED: &str = "OK";
 
 #[derive(Clone, Copy, PartialEq, Eq)]
 pub enum Op {
     BarcodeToLine,
     LineToBarcode,
+    ReadRecord,
+    WriteRecord,
 }
 
-pub const OPS: [Op; 2] = [Op::BarcodeToLine, Op::LineToBarcode];
+pub const OPS: [Op; 4] = [
+    Op::BarcodeToLine,
+    Op::LineToBarcode,
+    Op::ReadRecord,
+    Op::WriteRecord,
+];
 
 impl Op {
     pub fn code(self) -> u8 {
         match self {
             Op::BarcodeToLine => b'B',
             Op::LineToBarcode => b'D',
+            Op::ReadRecord => b'C',
+            Op::WriteRecord => b'W',
         }
     }
 
     pub fn from_code(code: u8) -> Option<Op> {
         OPS.into_iter().find(|op| op.code() == code)
-    }
-
-    fn allows_kind(self, kind: u8) -> bool {
-        match self {
-            Op::BarcodeToLine | Op::LineToBarcode => kind == UNUSED,
-        }
     }
 }
 
@@ -65,9 +74,28 @@ pub struct Request {
 }
 
 /// What a well-formed header asks for.
-pub struct Call {
-    pub op: Op,
-    pub room: usize,
+pub enum Call {
+    BarcodeToLine { room: usize },
+    LineToBarcode { room: usize },
+    ReadRecord { subject: Subject },
+    WriteRecord { subject: Subject, room: usize },
+}
+
+impl Call {
+    /// How many bytes and a line feed follow a reply that has this line. The
+    /// malformed reply has none: what follows it is the next reply.
+    fn bytes_behind(&self, line: &[u8]) -> Option<usize> {
+        match self {
+            Call::BarcodeToLine { room }
+            | Call::LineToBarcode { room }
+            | Call::WriteRecord { room, .. } => {
+                (line != Answer::malformed().as_reply().line).then_some(*room)
+            }
+            Call::ReadRecord { .. } => line
+                .starts_with(ACCEPTED.as_bytes())
+                .then_some(RECORD_BYTES),
+        }
+    }
 }
 
 pub fn header(op: u8, direction: u8, room: usize, length: usize) -> Header {
@@ -98,17 +126,41 @@ impl Request {
         Request { header, payload }
     }
 
-    /// The call a well-formed request makes; nothing for a malformed one.
+    pub fn about_record(op: Op, subject: Subject, room: usize, payload: Vec<u8>) -> Request {
+        let mut request = Request::new(op, subject.direction.code(), room, payload);
+        request.header[KIND_AT] = subject.kind.code();
+        request
+    }
+
+    /// The call a well-formed header makes; nothing for a malformed one. The
+    /// payload of a call may be malformed still.
     pub fn call(&self) -> Option<Call> {
         let op = Op::from_code(self.header[OP_AT])?;
         let room = six_digits(&self.header[ROOM_AT..LENGTH_AT])?;
         let length = six_digits(&self.header[LENGTH_AT..LINE_FEED_AT])?;
-        let well_formed = op.allows_kind(self.header[KIND_AT])
-            && DIRECTIONS.contains(&self.header[DIRECTION_AT])
-            && room <= BYTES_LIMIT
-            && length <= BYTES_LIMIT
-            && self.header[LINE_FEED_AT] == b'\n';
-        well_formed.then_some(Call { op, room })
+        if room > BYTES_LIMIT || length > BYTES_LIMIT || self.header[LINE_FEED_AT] != b'\n' {
+            return None;
+        }
+        match op {
+            Op::BarcodeToLine => self
+                .names_no_record()
+                .then_some(Call::BarcodeToLine { room }),
+            Op::LineToBarcode => self
+                .names_no_record()
+                .then_some(Call::LineToBarcode { room }),
+            Op::ReadRecord => self.subject().map(|subject| Call::ReadRecord { subject }),
+            Op::WriteRecord => self
+                .subject()
+                .map(|subject| Call::WriteRecord { subject, room }),
+        }
+    }
+
+    fn names_no_record(&self) -> bool {
+        self.header[KIND_AT] == UNUSED && DIRECTIONS.contains(&self.header[DIRECTION_AT])
+    }
+
+    fn subject(&self) -> Option<Subject> {
+        Subject::from_codes(self.header[KIND_AT], self.header[DIRECTION_AT])
     }
 
     pub fn op_code(&self) -> u8 {
@@ -134,7 +186,7 @@ pub enum Verdict {
 impl fmt::Display for Verdict {
     fn fmt(&self, out: &mut fmt::Formatter) -> fmt::Result {
         match self {
-            Verdict::Accepted => write!(out, "OK"),
+            Verdict::Accepted => write!(out, "{ACCEPTED}"),
             Verdict::Refused {
                 number,
                 line,
@@ -144,10 +196,16 @@ impl fmt::Display for Verdict {
     }
 }
 
-/// What document 01 demands of a call: its verdict and the lent memory after it.
+/// What document 01 demands of a call.
 pub struct Answer {
     pub verdict: Verdict,
+    /// For each field of a record that was read its number, or nothing where
+    /// the field is read as bytes.
+    pub numbers: Vec<Option<u64>>,
+    /// The lent memory after the call, or the text of the record that was read.
     pub memory: Option<Vec<u8>>,
+    /// Parts of the memory that may hold anything.
+    pub unbound: Vec<Range<usize>>,
 }
 
 impl Answer {
@@ -157,14 +215,44 @@ impl Answer {
             line: 0,
             place: 0,
         };
+        Answer::without_memory(verdict)
+    }
+
+    pub fn without_memory(verdict: Verdict) -> Answer {
         Answer {
             verdict,
+            numbers: Vec::new(),
             memory: None,
+            unbound: Vec::new(),
         }
     }
 
+    pub fn with_memory(verdict: Verdict, memory: Vec<u8>) -> Answer {
+        Answer {
+            memory: Some(memory),
+            ..Answer::without_memory(verdict)
+        }
+    }
+
+    /// The reply demanded, with what came at the places that may hold anything.
+    pub fn reply_beside(&self, came: &Reply) -> Reply {
+        let mut reply = self.as_reply();
+        if reply.memory.len() == came.memory.len() {
+            for part in &self.unbound {
+                reply.memory[part.clone()].copy_from_slice(&came.memory[part.clone()]);
+            }
+        }
+        reply
+    }
+
     pub fn as_reply(&self) -> Reply {
-        let line = format!("{}\n", self.verdict).into_bytes();
+        let mut line = self.verdict.to_string();
+        for number in &self.numbers {
+            line += " ";
+            line += &number.map_or("-".to_string(), |number| number.to_string());
+        }
+        line += "\n";
+        let line = line.into_bytes();
         let mut memory = Vec::new();
         if let Some(lent) = &self.memory {
             memory.extend_from_slice(lent);
@@ -210,23 +298,20 @@ impl Conversation {
         })
     }
 
-    /// Reads a reply; `room` is the size of the lent memory if the call has any.
-    pub fn next_reply(&mut self, room: Option<usize>) -> io::Result<Reply> {
+    /// Reads the reply to a call, or to a malformed request.
+    pub fn next_reply(&mut self, call: Option<Call>) -> io::Result<Reply> {
         let mut line = Vec::new();
         self.replies
             .by_ref()
             .take(LONGEST_REPLY_LINE)
             .read_until(b'\n', &mut line)?;
         let mut memory = Vec::new();
-        if let Some(room) = room {
-            // The malformed reply never has memory: what follows it is the next reply.
-            if line != Answer::malformed().as_reply().line {
-                let with_line_feed = room as u64 + 1;
-                self.replies
-                    .by_ref()
-                    .take(with_line_feed)
-                    .read_to_end(&mut memory)?;
-            }
+        if let Some(bytes) = call.and_then(|call| call.bytes_behind(&line)) {
+            let with_line_feed = bytes as u64 + 1;
+            self.replies
+                .by_ref()
+                .take(with_line_feed)
+                .read_to_end(&mut memory)?;
         }
         Ok(Reply { line, memory })
     }

@@ -7,15 +7,15 @@ use std::fmt;
 use crate::probe::{Op, Request, Verdict, MALFORMED};
 
 /// One column for each op, and one for all that name no op.
-const COLUMNS: [&str; 3] = ["B", "D", "other"];
-const NO_OP: &str = COLUMNS[2];
+const COLUMNS: [&str; 5] = ["B", "D", "C", "W", "other"];
+const NO_OP: &str = COLUMNS[4];
 const ACCEPTED: &str = "OK";
 const MALFORMED_REQUEST: &str = "malformed";
 const FIELD_CHECK: u32 = 42;
 
 /// Each answer with the columns in which it can occur.
-const ANSWERS: [(&str, &[&str]); 10] = [
-    (ACCEPTED, &["B", "D"]),
+const ANSWERS: [(&str, &[&str]); 19] = [
+    (ACCEPTED, &["B", "D", "C", "W"]),
     ("40", &["B", "D"]),
     ("41", &["B", "D"]),
     ("43", &["B", "D"]),
@@ -23,7 +23,16 @@ const ANSWERS: [(&str, &[&str]); 10] = [
     ("42 at 21", &["D"]),
     ("42 at 32", &["D"]),
     ("44", &["B", "D"]),
-    ("50", &["B", "D"]),
+    ("1", &["C"]),
+    ("4", &["C", "W"]),
+    ("6", &["C"]),
+    ("11", &["C"]),
+    ("8", &["C", "W"]),
+    ("12", &["C", "W"]),
+    ("13", &["C", "W"]),
+    ("14", &["C", "W"]),
+    ("15", &["C", "W"]),
+    ("50", &["B", "D", "W"]),
     (MALFORMED_REQUEST, &COLUMNS),
 ];
 

@@ -1,4 +1,5 @@
 -- The rules of a barcode and of a digit line, in the paper's order. Assumes nothing.
+use mathlib.Core.Bool.{Bool}
 use mathlib.Core.List.{List, [], _∷_, _++_}
 use Prim.Native.Nat.{ℕ, _+_, _-_}
 use lib.Dec.{eqb}
@@ -9,12 +10,15 @@ use Rattle.digits.specs.Checks.{sealed}
 use Rattle.digits.specs.declared.sealing.Modulus.the-variants.{Ten, Eleven}
 use Rattle.boleto.specs.Strings.{barcodeDigits, lineDigits, currencyPlace, barcodeCheck, lineCheck, barcodeOf}
 
+abbrev pub currencyFits : List ℕ → Bool
+currencyFits bs = eqb (place currencyPlace bs) (digitByte 9)
+
 -- a string of n digits: its length, its first non-digit, its currency 9
 unfoldable pub headRules : ℕ → List ℕ → List Rule
 headRules n bs =
     rule 40 0 (eqb (length bs) n)
     ∷ rule 41 (leading bs + 1) (allDigits bs)
-    ∷ rule 43 currencyPlace (eqb (place currencyPlace bs) (digitByte 9))
+    ∷ rule 43 currencyPlace (currencyFits bs)
     ∷ []
 
 unfoldable pub barcodeRules : List ℕ → List Rule

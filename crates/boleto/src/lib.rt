@@ -14,14 +14,14 @@ ghost use Rattle.answer.specs.Rules.{firstBroken};
 ghost use Rattle.answer.specs.Output.{Writes};
 ghost use Rattle.digits.specs.Checks.{sealed};
 ghost use Rattle.boleto.specs.Strings.{barcodeDigits, lineDigits, barcodeCheck, lineOf, barcodeOf};
-ghost use Rattle.boleto.specs.Rules.{headRules, barcodeRules, fieldRule, checkRules, lineRules};
+ghost use Rattle.boleto.specs.Rules.{currencyFits, headRules, barcodeRules, fieldRule, checkRules, lineRules};
 
 const BARCODE_DIGITS: usize = 44;
 
 const LINE_DIGITS: usize = 47;
 
 // Where the currency stands, in both strings, and the general check, in each.
-const CURRENCY_PLACE: usize = 4;
+pub const CURRENCY_PLACE: usize = 4;
 
 const BARCODE_CHECK: usize = 5;
 
@@ -38,9 +38,17 @@ const CURRENCY: u8 = 43;
 
 const GENERAL_CHECK: u8 = 44;
 
+pub fn currency_fits(s: &[u8]) -> bool
+    ensures { λ r. ⌜ r ≡ currencyFits (now (s .entry)) ⌝ }
+{
+    if s.len() < CURRENCY_PLACE {
+        return false;
+    }
+    s[CURRENCY_PLACE - 1] == b'9'
+}
+
 // The rules that barcode and line share, for a string of n digits.
 fn check_head(s: &[u8], n: usize) -> Answer
-    requires { ⌜ 4 ≤ n ⌝ }
     ensures { λ r. ⌜ r ≡ firstBroken (headRules n (now (s .entry))) ⌝ }
 {
     if s.len() != n {
@@ -50,7 +58,7 @@ fn check_head(s: &[u8], n: usize) -> Answer
     if leading != s.len() {
         return Answer::refused(NON_DIGIT, leading + 1);
     }
-    Answer::test(CURRENCY, CURRENCY_PLACE, s[CURRENCY_PLACE - 1] == b'9')
+    Answer::test(CURRENCY, CURRENCY_PLACE, currency_fits(s))
 }
 
 pub fn check_barcode(bar: &[u8]) -> Answer

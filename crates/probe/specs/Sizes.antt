@@ -18,3 +18,7 @@ mostBytes = 900000
 -- a number, if there is one, that six digits can announce
 pub record Announced (r : Number) : Type 0 where
   pub small : (n : ℕ) → r ≡ Is n → n ≤ mostAnnounced
+
+-- how many digits a payload has for a field's number
+abbrev pub numberDigits : ℕ
+numberDigits = 20

@@ -1,7 +1,10 @@
 // The header of a request: op (1), record kind (1, '-' if unused), direction ('1', '2' or '-'), room
-// (6 digits), payload length (6 digits), LF.
+// (6 digits), payload length (6 digits), LF. Record kinds: 0 file header, 1 batch header, A, B, J, 2
+// for J52, Z, 5 batch trailer, 9 file trailer.
 use super::MOST_BYTES;
 use digits::Number;
+use layout::Direction;
+use layout::Record;
 ghost use Prim.Native.Nat.{_+_, _≤_};
 ghost use lib.ListN.{length};
 ghost use Rattle.probe.specs.Sizes.{announcedDigits, mostAnnounced, mostBytes, Announced};
@@ -18,7 +21,19 @@ const END: usize = 15;
 pub(crate) enum Op {
     BarcodeToLine,
     LineToBarcode,
+    ReadRecord(Record, Direction),
+    WriteRecord(Record, Direction),
     Malformed,
+}
+
+enum Asked {
+    Of(Record),
+    Unknown,
+}
+
+enum Way {
+    Of(Direction),
+    Unknown,
 }
 
 pub(crate) struct Header {
@@ -35,14 +50,59 @@ fn announced(head: &[u8], from: usize) -> Number
     digits::number_of(&head[from..from + DIGITS])
 }
 
-fn op_of(op: u8, kind: u8, direction: u8) -> Op {
-    let known = (direction == b'1') | (direction == b'2') | (direction == b'-');
-    if !known | (kind != b'-') {
-        return Op::Malformed;
+fn record_of(kind: u8) -> Asked {
+    match kind {
+        b'0' => Asked::Of(Record::FileHeader),
+        b'1' => Asked::Of(Record::BatchHeader),
+        b'A' => Asked::Of(Record::SegmentA),
+        b'B' => Asked::Of(Record::SegmentB),
+        b'J' => Asked::Of(Record::SegmentJ),
+        b'2' => Asked::Of(Record::SegmentJ52),
+        b'Z' => Asked::Of(Record::SegmentZ),
+        b'5' => Asked::Of(Record::BatchTrailer),
+        b'9' => Asked::Of(Record::FileTrailer),
+        _ => Asked::Unknown,
     }
+}
+
+fn way_of(direction: u8) -> Way {
+    match direction {
+        b'1' => Way::Of(Direction::Remittance),
+        b'2' => Way::Of(Direction::Return),
+        _ => Way::Unknown,
+    }
+}
+
+// An op on a digit string has no record kind, and any direction.
+fn digits_op(op: Op, kind: u8, direction: u8) -> Op {
+    let known = (direction == b'1') | (direction == b'2') | (direction == b'-');
+    if known & (kind == b'-') {
+        op
+    } else {
+        Op::Malformed
+    }
+}
+
+fn record_op(op: u8, kind: u8, direction: u8) -> Op {
+    let Asked::Of(which) = record_of(kind) else {
+        return Op::Malformed;
+    };
+    let Way::Of(dir) = way_of(direction) else {
+        return Op::Malformed;
+    };
+    if op == b'C' {
+        Op::ReadRecord(which, dir)
+    } else {
+        Op::WriteRecord(which, dir)
+    }
+}
+
+fn op_of(op: u8, kind: u8, direction: u8) -> Op {
     match op {
-        b'B' => Op::BarcodeToLine,
-        b'D' => Op::LineToBarcode,
+        b'B' => digits_op(Op::BarcodeToLine, kind, direction),
+        b'D' => digits_op(Op::LineToBarcode, kind, direction),
+        b'C' => record_op(op, kind, direction),
+        b'W' => record_op(op, kind, direction),
         _ => Op::Malformed,
     }
 }

@@ -3,7 +3,12 @@
 // A request is a header of 16 bytes and a payload. The reply is a line, `OK` or `NO number line
 // place`, and for calls with output memory the whole of that memory and LF. A malformed request is
 // answered `NO 0 0 0` alone; a request that is cut short ends the program.
+//
+// B and D turn a barcode and a digit line into each other. C reads a record; its `OK` is followed by
+// a number, or `-`, for each field, and by a line with the text. W writes a record: the payload has 20
+// digits for each field, and then the text.
 mod header;
+mod records;
 mod reply;
 
 use header::Op;
@@ -37,6 +42,8 @@ fn call(op: Op, payload: &[u8], out: &mut [u8]) {
     match op {
         Op::BarcodeToLine => reply::memory(boleto::barcode_to_line(payload, out), out),
         Op::LineToBarcode => reply::memory(boleto::line_to_barcode(payload, out), out),
+        Op::ReadRecord(which, dir) => records::read(payload, which, dir),
+        Op::WriteRecord(which, dir) => records::write(payload, which, dir, out),
         Op::Malformed => reply::malformed(),
     }
 }

@@ -2,23 +2,27 @@
 use answer::Answer;
 use libc::STDOUT_FILENO;
 
-fn spaced(n: u64) {
-    io::write_all(STDOUT_FILENO, b" ");
+pub(crate) fn bytes(text: &[u8]) {
+    io::write_all(STDOUT_FILENO, text);
+}
+
+pub(crate) fn spaced(n: u64) {
+    bytes(b" ");
     io::print_decimal(STDOUT_FILENO, n);
 }
 
 fn refused(number: u64, line: u64, place: u64) {
-    io::write_all(STDOUT_FILENO, b"NO");
+    bytes(b"NO");
     spaced(number);
     spaced(line);
     spaced(place);
-    io::write_all(STDOUT_FILENO, b"\n");
+    bytes(b"\n");
 }
 
-fn line(answer: Answer) {
+pub(crate) fn line(answer: Answer) {
     match answer {
         Answer::Accepted => {
-            io::write_all(STDOUT_FILENO, b"OK\n");
+            bytes(b"OK\n");
         }
         Answer::Refused(r) => refused(r.number as u64, r.line.0, r.place as u64),
     }
@@ -31,6 +35,6 @@ pub(crate) fn malformed() {
 // Of a call with output memory.
 pub(crate) fn memory(answer: Answer, out: &[u8]) {
     line(answer);
-    io::write_all(STDOUT_FILENO, out);
-    io::write_all(STDOUT_FILENO, b"\n");
+    bytes(out);
+    bytes(b"\n");
 }

@@ -35,7 +35,7 @@ returns-3 c =
     let s = at-if .before .before .before .before .args .s .now in
     let long = eq-eqb _ _ (at-if .before .before .if1 .left) in
     let all : leading s ≡ length s = omega arith in
-    past _ _ _ _ _ long (past _ _ _ _ _ (eq-eqb _ _ all) (c .test .ensures))
+    past _ _ _ _ _ long (past _ _ _ _ _ (eq-eqb _ _ all) (c .test .ensures ∙ rw (c .before .currency-fits .ensures)))
 
 pub check-head-spec : {M : Type 1} → statement M
 check-head-spec =
@@ -47,7 +47,6 @@ check-head-spec =
     add-refused
     (λ c κs. search needs)
     returns-2
-    (λ c. search needs)
-    (λ c. search needs)
+    (λ c κs. search needs)
     (λ c κs. search needs)
     returns-3)

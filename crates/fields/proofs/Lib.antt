@@ -1,0 +1,4 @@
+-- Laws on plain values, for the proofs of this crate's functions.
+mod Fills
+mod Store
+mod Put

@@ -1,0 +1,88 @@
+-- The fields put one after the other over the output, and what stands there in the end. Assumes nothing.
+use mathlib.Core.Path.{_≡_, sym, ap, _∙_}
+use mathlib.Core.List.{List, [], _∷_, _++_, append-assoc}
+use Prim.Native.Nat.{ℕ, suc, _+_, _-_, _≤_, _<_}
+use native.Mathlib.Nat.{add-zero, le-antisymm}
+use native.Mathlib.Numerals.{add-one}
+use native.Mathlib.Omega.{arith}
+use lib.Dec.{T, eqb→eq}
+use lib.ListN.{length, getD, take, drop, length-append, length-drop, take-append-drop}
+use lib.Seq.{take-at, drop-at, drop-drop, length-take-le, slice, slice-cons, slice-empty, getD-drop}
+use Rattle.digits.specs.Digits.{places}
+use Rattle.layout.specs.Table.{Field, field, part, fieldsOf, recordBytes, tiles, none}
+use Rattle.layout.specs.Kinds.{means}
+use Rattle.layout.specs.Lent.{all, kindOf, fieldCount}
+use Rattle.layout.specs.laws.Tiling.{tiled, ends, All}
+use Rattle.layout.specs.laws.Sound.{width, Sound, sounds}
+use Rattle.layout.specs.laws.Columns.{Stands, all-length}
+use Rattle.layout.specs.declared.Record.{Record}
+use Rattle.fields.specs.Values.{heldAs, rendered, joined}
+use Rattle.fields.specs.laws.Parts.{first}
+
+-- bytes put over a field's places
+abbrev pub put : Field → List ℕ → List ℕ → List ℕ
+put f bs out = take (f .from - 1) out ++ (bs ++ drop (width f) (drop (f .from - 1) out))
+
+-- the fields put one after the other
+unfoldable pub putFields : List Field → List ℕ → List ℕ → List ℕ → List ℕ
+putFields [] ns text out = out
+putFields (f ∷ fs) ns text out = putFields fs (drop 1 ns) text (put f (rendered (heldAs f) (getD ns 0 0) (part f text)) out)
+
+-- one field more
+pub put-more : (f past start : ℕ) {from to k : ℕ} (ns text out new : List ℕ) → start ≤ f → f < past → past ≤ fieldCount → Stands f from to k
+    → new ≡ rendered (means (kindOf k) .held) (getD ns (f - start) 0) (places from to text)
+    → putFields (slice (f + 1) past all) (drop (f + 1 - start) ns) text (put (field from to (kindOf k)) new out)
+    ≡ putFields (slice f past all) (drop (f - start) ns) text out
+unfolding putFields
+put-more f past start {from} {to} {k} ns text out new b h l s q =
+    let m : f + 1 - start ≡ f - start + 1 = omega arith in
+    let u : past ≤ length all = rw all-length l in
+    let z : getD (drop (f - start) ns) 0 0 ≡ getD ns (f - start) 0 = getD-drop (f - start) ns 0 0 ∙ rw add-zero in
+    let q′ = q ∙ ap (λ (n : ℕ). rendered (means (kindOf k) .held) n (places from to text)) (sym z) in
+    rw (m, add-one f, slice-cons f past all none h u, ← (s .is), q′, ← (drop-drop 1 (f - start) ns))
+
+pub put-end : (f past : ℕ) (ns text out : List ℕ) → f ≤ past → past ≤ f → putFields (slice f past all) ns text out ≡ out
+unfolding putFields
+put-end f past ns text out h l = rw (le-antisymm h l, slice-empty)
+
+-- bytes bs put from a up to e
+module _ (a e : ℕ) (out bs : List ℕ) (h : a ≤ e) (l : e ≤ recordBytes) (k : recordBytes ≤ length out) (n : length bs ≡ e - a) where
+  front : take a out ++ (bs ++ drop (e - a) (drop a out)) ≡ (take a out ++ bs) ++ drop e out
+  front = let m : a + (e - a) ≡ e = omega arith in rw (drop-drop, m, append-assoc)
+
+  front-length : length (take a out ++ bs) ≡ e
+  front-length = rw (length-append, length-take-le a out (omega arith)) (omega arith)
+
+  put-length : length (take a out ++ (bs ++ drop (e - a) (drop a out))) ≡ length out
+  put-length = rw (front, length-append, front-length, length-drop) (omega arith)
+
+  put-then : (r : List ℕ) → take e (take a out ++ (bs ++ drop (e - a) (drop a out))) ++ (r ++ drop recordBytes (take a out ++ (bs ++ drop (e - a) (drop a out))))
+      ≡ take a out ++ ((bs ++ r) ++ drop recordBytes out)
+  put-then r =
+      let m : recordBytes ≡ e + (recordBytes - e) = omega arith in
+      let q : drop recordBytes ((take a out ++ bs) ++ drop e out) ≡ drop recordBytes out
+      = rw (m, ← (drop-drop (recordBytes - e) e ((take a out ++ bs) ++ drop e out)), drop-at _ (drop e out) e front-length) (drop-drop (recordBytes - e) e out ∙ ap (λ (j : ℕ). drop j out) (sym m)) in
+      rw (front, take-at _ (drop e out) e front-length, q) (simp append-assoc)
+
+-- fields that tile a record from p + 1 on, put over the output, give it up to p, their bytes, and it behind the record
+module _ (text : List ℕ) (full : length text ≡ recordBytes) where
+  put-all : (p : ℕ) (fs : List Field) (ns out : List ℕ) → T (tiles (suc p) fs) → All Sound fs → recordBytes ≤ length out
+      → putFields fs ns text out ≡ take p out ++ (joined fs ns text ++ drop recordBytes out)
+  unfolding putFields joined tiles All
+  put-all p [] ns out t s h =
+      let e : p ≡ recordBytes = omega (arith, eqb→eq (suc p) (suc recordBytes) t) in
+      rw e (sym (take-append-drop recordBytes out))
+  put-all p (f ∷ fs) ns out t s h =
+      let a = first text full p f fs (getD ns 0 0) t (s .0) in
+      let bs = rendered (heldAs f) (getD ns 0 0) (part f text) in
+      let u = ends (suc (f .to)) fs (a .others) in
+      let o : f .from - 1 ≤ f .to = omega (arith, a .start, a .next) in
+      let up : f .to ≤ recordBytes = omega (arith, u) in
+      put-all (f .to) fs (drop 1 ns) (put f bs out) (a .others) (s .1) (rw (put-length (f .from - 1) (f .to) out bs o up h (a .long)) h)
+      ∙ put-then (f .from - 1) (f .to) out bs o up h (a .long) (joined fs (drop 1 ns) text)
+      ∙ rw (a .start)
+
+  -- the fields of a record, put over the output, give the record and the output behind it
+  pub put-record : (r : Record) (fs : List Field) (ns out : List ℕ) → fs ≡ fieldsOf r → recordBytes ≤ length out
+      → putFields fs ns text out ≡ joined (fieldsOf r) ns text ++ drop recordBytes out
+  put-record r fs ns out e h = rw e (put-all 0 (fieldsOf r) ns out (tiled r) (sounds r) h)

@@ -1,0 +1,6 @@
+-- What is proved of the definitions, for other crates to cite.
+pub mod Parts
+pub mod Kept
+pub mod RoundTrip
+pub mod TooWide
+pub mod Calls

@@ -1,0 +1,169 @@
+-- What a field's bytes are where its rules are kept, and what is refused where they are no number. Assumes nothing.
+use mathlib.Core.Path.{_≡_, refl, sym, _∙_}
+use mathlib.Core.Bool.{Bool, true, false, _||_}
+use mathlib.Core.List.{List, [], _∷_, _++_, append-assoc}
+use Prim.Native.Nat.{ℕ, zero, suc, _≤_, _<_}
+use native.Mathlib.Nat.{not-suc-le-zero, le-of-suc-le-suc}
+use native.Mathlib.Omega.{arith}
+use borrow.Author.Tests.{eqb-true}
+use lib.Dec.{T, eqb, leb→le, eqb→eq}
+use lib.ListN.{length, getD, take, drop, length-take}
+use Rattle.answer.specs.Rules.{Rule, rule, firstBroken, AllKept, refusedAs}
+use Rattle.answer.specs.laws.Order.{accepted-kept, here, gone-on, front-accepted}
+use Rattle.answer.specs.declared.Answer.the-variants.{Accepted}
+use Rattle.digits.specs.Digits.{allDigits}
+use Rattle.digits.specs.Numbers.{number, mostDigits, numberOf}
+use Rattle.digits.specs.laws.Tests.{both}
+use Rattle.digits.specs.laws.Strings.{Digit, Digits, head, rest, leading-all}
+use Rattle.digits.specs.laws.Numerals.{digits-give}
+use Rattle.digits.specs.declared.spelling.Number.{Number}
+use Rattle.digits.specs.declared.spelling.Number.the-variants.{Is, Not}
+use Rattle.calendar.specs.Calendar.{numberFits, dateFits, timeFits}
+use Rattle.layout.specs.Pairs.{Pairs, pairs, among, batchAmong, batchOf, known}
+use Rattle.layout.specs.Table.{Kind, N, Id, T as Text, F, D, Time, K, O, Zeros, Exact, OneOf, Service, Form, Barcode, RecordType, Segment, Field, part, marks, fieldsOf, recordBytes, none, serviceField, formField}
+use Rattle.layout.specs.Kinds.{Held, asNumber, asBytes, asFixed, means, isFixed, oneOf}
+use Rattle.layout.specs.Record.{partOf, fieldRules, rulesOf, byteRule, recordRules}
+use Rattle.layout.specs.laws.Bytes.{and-left, and-right, same-true, no-service, no-form}
+use Rattle.layout.specs.laws.Sound.{width, fills, stands, proper, Sound, sound-at}
+use Rattle.layout.specs.declared.Direction.{Direction}
+use Rattle.layout.specs.declared.Record.{Record}
+use Rattle.fields.specs.Values.{heldAs}
+use Rattle.fields.specs.Wide.{wide, wideNumber, widePlace}
+
+-- ---- bytes that give a number
+
+record Some (m : Number) : Type 0 where
+  value : ℕ
+  is : m ≡ Is value
+
+never : {A : Type 0} → false ≡ true → A
+never e = absurd (let z : _≡_ {A = ℕ} 0 1 = cc in omega arith)
+
+digits-some : (bs : List ℕ) → Digits bs → length bs ≤ mostDigits → Some (numberOf bs)
+digits-some bs ds h = record { value = number bs; is = digits-give bs ds h }
+
+all-some : (bs : List ℕ) → length bs ≤ mostDigits → allDigits bs ≡ true → Some (numberOf bs)
+all-some bs h e = digits-some bs (leading-all bs (eqb-true _ _ e)) h
+
+fits-some : (test : ℕ → Bool) (m : Number) → numberFits test m ≡ true → Some m
+fits-some test (Is n) e = record { value = n; is = refl }
+fits-some test Not e = never e
+
+among-digit : (b : ℕ) (domain : List ℕ) → Digits domain → among b domain ≡ true → Digit b
+among-digit b [] ds e = never e
+among-digit b (m ∷ ms) ds e = go (eqb b m) refl (among-digit b ms (rest ds)) e
+  where
+    go : (t : Bool) → eqb b m ≡ t → (among b ms ≡ true → Digit b) → (t || among b ms) ≡ true → Digit b
+    go true q others e = rw (eqb-true b m q) (head ds)
+    go false q others e = others e
+
+one-some : (domain bs : List ℕ) → T (allDigits domain) → oneOf domain bs ≡ true → Some (numberOf bs)
+one-some domain bs t e =
+    let one : length bs ≡ 1 = eqb-true _ _ (and-left (eqb (length bs) 1) _ e) in
+    let d = among-digit (getD bs 0 0) domain (leading-all domain (eqb→eq _ _ t)) (and-right (eqb (length bs) 1) _ e) in
+    digits-some bs (record { each = λ i h. let z : i ≡ 0 = omega arith in rw z d }) (omega arith)
+
+-- each half of a pair
+service-some : (ps : List Pairs) (service form : Number) → known (batchAmong ps service form) ≡ true → Some service
+service-some ps (Is n) form e = record { value = n; is = refl }
+service-some ps Not form e = never (rw (no-service ps form) at e)
+
+form-some : (ps : List Pairs) (service form : Number) → known (batchAmong ps service form) ≡ true → Some form
+form-some ps service (Is n) e = record { value = n; is = refl }
+form-some ps service Not e = never (rw (no-form ps service) at e)
+
+same-places : (g f : Field) (bs : List ℕ) → T (stands g f) → part f bs ≡ part g bs
+same-places g f bs t =
+    let a = both (eqb (f .from) (g .from)) (eqb (f .to) (g .to)) t in
+    rw (eqb→eq (f .from) (g .from) (a .0), eqb→eq (f .to) (g .to) (a .1))
+
+-- ---- a kind's rules, by how it is held
+
+-- a number has one rule, refused as `number` at `place`, which only bytes that give a number keep; bytes have any; fixed content is compared
+data Ruled (bs : List ℕ) (number place : ℕ) : Held → List Rule → Type 0 where
+  a-number : {t : Bool} → (t ≡ true → Some (numberOf bs)) → Ruled bs number place asNumber (rule number place t ∷ [])
+  any-bytes : {rules : List Rule} → Ruled bs number place asBytes rules
+  content-only : {content : ℕ → List ℕ} {n p : ℕ} → Ruled bs number place (asFixed content) (rule n p (isFixed content bs) ∷ [])
+
+ruled : (k : Kind) (f : Field) (d : Direction) (rec : List ℕ) → length (part f rec) ≤ width f → T (fills (means k .held) (width f)) → T (proper k f)
+    → Ruled (part f rec) (wide k .number) (wide k .place (f .from)) (means k .held) (means k .rules (partOf f d rec))
+unfolding dateFits timeFits batchOf
+ruled N f d rec l s o = a-number (all-some (part f rec) (omega (arith, leb→le (width f) mostDigits s)))
+ruled Id f d rec l s o = any-bytes
+ruled Text f d rec l s o = any-bytes
+ruled F f d rec l s o = any-bytes
+ruled D f d rec l s o = a-number (λ e. fits-some _ _ (and-right (eqb (length (part f rec)) 8) _ e))
+ruled Time f d rec l s o = a-number (λ e. fits-some _ _ (and-right (eqb (length (part f rec)) 6) _ e))
+ruled K f d rec l s o = content-only
+ruled O f d rec l s o = any-bytes
+ruled Zeros f d rec l s o = content-only
+ruled (Exact bs) f d rec l s o = content-only
+ruled (OneOf domain) f d rec l s o = a-number (one-some domain (part f rec) o)
+ruled Service f d rec l s o = a-number (λ e. rw (same-places serviceField f rec o) (service-some (pairs d) _ (numberOf (part formField rec)) e))
+ruled Form f d rec l s o = a-number (λ e. rw (same-places formField f rec o) (form-some (pairs d) (numberOf (part serviceField rec)) _ e))
+ruled Barcode f d rec l s o = any-bytes
+ruled (RecordType b) f d rec l s o = content-only
+ruled (Segment b) f d rec l s o = content-only
+
+module _ (f : Field) (d : Direction) (rec : List ℕ) (s : Sound f) where
+  rules-of : Ruled (part f rec) (wideNumber (f .kind)) (widePlace f) (heldAs f) (fieldRules f d rec)
+  rules-of = ruled (f .kind) f d rec (rw length-take (omega arith)) (s .filled) (s .own)
+
+-- ---- kept, and broken
+
+-- what is known of a field's bytes that keep its rules, by how the field is held
+pub data Kept (bs : List ℕ) : Held → Type 0 where
+  is-number : {n : ℕ} → numberOf bs ≡ Is n → Kept bs asNumber
+  is-bytes : Kept bs asBytes
+  is-fixed : {content : ℕ → List ℕ} → content (length bs) ≡ bs → Kept bs (asFixed content)
+
+module _ {bs : List ℕ} {number place : ℕ} where
+  keeps : {h : Held} {rules : List Rule} → Ruled bs number place h rules → firstBroken rules ≡ Accepted → Kept bs h
+  unfolding AllKept
+  keeps (a-number k) e = is-number (k (accepted-kept _ e .0) .is)
+  keeps any-bytes e = is-bytes
+  keeps content-only e = is-fixed (same-true _ _ (accepted-kept _ e .0))
+
+  breaks : {h : Held} {rules : List Rule} → Ruled bs number place h rules → h ≡ asNumber → numberOf bs ≡ Not → firstBroken rules ≡ refusedAs number place
+  breaks (a-number {t} k) e q = go t k
+    where
+      go : (t : Bool) → (t ≡ true → Some (numberOf bs)) → firstBroken (rule number place t ∷ []) ≡ refusedAs number place
+      go true k = let s = k refl in cc
+      go false k = sym (here number place false [] refl)
+  breaks any-bytes e q = cc
+  breaks content-only e q = cc
+
+module _ (f : Field) (d : Direction) (rec : List ℕ) (s : Sound f) where
+  pub kept : firstBroken (fieldRules f d rec) ≡ Accepted → Kept (part f rec) (heldAs f)
+  kept = keeps (rules-of f d rec s)
+
+  pub no-number : heldAs f ≡ asNumber → numberOf (part f rec) ≡ Not → firstBroken (fieldRules f d rec) ≡ refusedAs (wideNumber (f .kind)) (widePlace f)
+  no-number = breaks (rules-of f d rec s)
+
+-- ---- one field's rules among all
+
+pub back-accepted : (xs ys : List Rule) → firstBroken (xs ++ ys) ≡ Accepted → firstBroken ys ≡ Accepted
+back-accepted xs ys e = gone-on xs ys (front-accepted xs ys e) ∙ e
+
+-- a record's rules before its fields'
+abbrev pub before : Record → Direction → List ℕ → List Rule
+before r d rec = rule 1 0 (eqb (length rec) recordBytes) ∷ byteRule rec ∷ rulesOf (marks r) d rec
+
+pub rules-at : (fs : List Field) (d : Direction) (rec : List ℕ) (j : ℕ) → j < length fs
+    → rulesOf fs d rec ≡ rulesOf (take j fs) d rec ++ (fieldRules (getD fs j none) d rec ++ rulesOf (drop (suc j) fs) d rec)
+unfolding rulesOf
+rules-at [] d rec j h = absurd (not-suc-le-zero h)
+rules-at (f ∷ fs) d rec zero h = refl
+rules-at (f ∷ fs) d rec (suc j) h = rw (rules-at fs d rec j (le-of-suc-le-suc h)) (sym (append-assoc (fieldRules f d rec) _ _))
+
+module _ (r : Record) (d : Direction) (rec : List ℕ) (e : firstBroken (recordRules r d rec) ≡ Accepted) where
+  pub right-length : length rec ≡ recordBytes
+  unfolding recordRules AllKept
+  right-length = eqb-true _ _ (accepted-kept _ e .0)
+
+  -- each field of a record that is accepted is right
+  pub right-field : (j : ℕ) → j < length (fieldsOf r) → let f = getD (fieldsOf r) j none in Kept (part f rec) (heldAs f)
+  unfolding recordRules
+  right-field j h =
+      let fields = rw (rules-at (fieldsOf r) d rec j h) at (back-accepted (before r d rec) (rulesOf (fieldsOf r) d rec) e) in
+      kept _ d rec (sound-at r j h) (front-accepted _ _ (back-accepted (rulesOf (take j (fieldsOf r)) d rec) _ fields))

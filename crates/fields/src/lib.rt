@@ -1,0 +1,61 @@
+// A record's fields as one value: read from a record, and written as one.
+mod reading;
+mod table;
+mod writing;
+
+use answer::Answer;
+pub use reading::read_record;
+pub use table::count;
+pub use table::is_number;
+pub use writing::write_record;
+ghost use mathlib.Core.Path.{_≡_};
+ghost use Rattle.fields.specs.Values.{noFields, numberAt, withNumber};
+
+// As many numbers as there is room for.
+const MOST_FIELDS: usize = 32;
+
+// The i-th number is that of the record's i-th field, where it is held as a number; layout::names has
+// the fields' names. The text has the other fields' bytes at their places.
+pub struct Fields {
+    pub numbers: [u64; 32],
+    pub text: [u8; 240],
+}
+
+// The check's answer, and the fields if the record is right.
+pub struct RecordRead {
+    pub answer: Answer,
+    pub fields: Fields,
+}
+
+impl Fields {
+    // No number and no text yet.
+    pub fn none() -> Fields
+        ensures { λ r. ⌜ r ≡ noFields ⌝ }
+    {
+        Fields {
+            numbers: [0; 32],
+            text: [0; 240],
+        }
+    }
+
+    // A field's number; past the last there is none.
+    pub fn number_at(self, field: usize) -> u64
+        ensures { λ r. ⌜ r ≡ numberAt field self ⌝ }
+    {
+        if field < MOST_FIELDS {
+            self.numbers[field]
+        } else {
+            0
+        }
+    }
+
+    // The same fields with another number.
+    pub fn with_number(mut self, field: usize, n: u64) -> Fields
+        ensures { λ r. ⌜ r ≡ withNumber field n self ⌝ }
+    {
+        if field < MOST_FIELDS {
+            self.numbers[field] = n;
+        }
+        self
+    }
+}

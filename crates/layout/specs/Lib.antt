@@ -1,0 +1,7 @@
+pub mod Pairs
+pub mod Table
+pub mod Kinds
+pub mod Record
+pub mod Lent
+pub mod Steps
+pub mod laws

@@ -1,0 +1,169 @@
+-- The layout table: the fields of each record, left to right, with their first and last places. Assumes nothing.
+use mathlib.Core.Path.{_≡_}
+use mathlib.Core.Bool.{Bool, _&&_}
+use mathlib.Core.List.{List, [], _∷_, _++_}
+use Prim.Native.Nat.{ℕ, suc, _≤_, _<_}
+use lib.Dec.{leb, eqb}
+use lib.ListN.{length, getD}
+use Rattle.digits.specs.Digits.{digitByte, places}
+use Rattle.layout.specs.declared.Record.{Record}
+use Rattle.layout.specs.declared.Record.the-variants.{FileHeader, BatchHeader, SegmentA, SegmentB, SegmentJ, SegmentJ52, SegmentZ, BatchTrailer, FileTrailer}
+
+-- N digits; Id digits of a CPF or CNPJ number; T text; F any; D a date; Time; K blanks; O blanks in a remittance; zeros; exact content;
+-- a domain; service and form; the barcode; the record's type and its segment
+pub data Kind : Type 0 where
+  N : Kind
+  Id : Kind
+  T : Kind
+  F : Kind
+  D : Kind
+  Time : Kind
+  K : Kind
+  O : Kind
+  Zeros : Kind
+  Exact : List ℕ → Kind
+  OneOf : List ℕ → Kind
+  Service : Kind
+  Form : Kind
+  Barcode : Kind
+  RecordType : ℕ → Kind
+  Segment : ℕ → Kind
+
+pub record Field : Type 0 where
+  pub from : ℕ
+  pub to : ℕ
+  pub kind : Kind
+
+abbrev pub field : ℕ → ℕ → Kind → Field
+field a b k = record { from = a; to = b; kind = k }
+
+-- the bytes at a field's places
+abbrev pub part : Field → List ℕ → List ℕ
+part f rec = places (f .from) (f .to) rec
+
+-- ---- what a record is known by
+
+abbrev pub typeOf : Record → ℕ
+typeOf FileHeader = digitByte 0
+typeOf BatchHeader = digitByte 1
+typeOf SegmentA = digitByte 3
+typeOf SegmentB = digitByte 3
+typeOf SegmentJ = digitByte 3
+typeOf SegmentJ52 = digitByte 3
+typeOf SegmentZ = digitByte 3
+typeOf BatchTrailer = digitByte 5
+typeOf FileTrailer = digitByte 9
+
+abbrev pub typeField : Record → Field
+typeField r = field 8 8 (RecordType (typeOf r))
+
+-- the letter of a detail: A 65, B 66, J 74, Z 90
+abbrev pub segmentField : ℕ → Field
+segmentField letter = field 14 14 (Segment letter)
+
+abbrev pub segmentFields : Record → List Field
+segmentFields FileHeader = []
+segmentFields BatchHeader = []
+segmentFields SegmentA = segmentField 65 ∷ []
+segmentFields SegmentB = segmentField 66 ∷ []
+segmentFields SegmentJ = segmentField 74 ∷ []
+segmentFields SegmentJ52 = segmentField 74 ∷ []
+segmentFields SegmentZ = segmentField 90 ∷ []
+segmentFields BatchTrailer = []
+segmentFields FileTrailer = []
+
+abbrev pub marks : Record → List Field
+marks r = typeField r ∷ segmentFields r
+
+-- ---- the table
+
+-- all lines
+abbrev pub line : Record → List Field
+line r = field 1 3 N ∷ field 4 7 N ∷ typeField r ∷ []
+
+-- domains
+abbrev pub zeroOneTwo : Kind
+zeroOneTwo = OneOf (digitByte 0 ∷ digitByte 1 ∷ digitByte 2 ∷ [])
+
+abbrev pub zeroNine : Kind
+zeroNine = OneOf (digitByte 0 ∷ digitByte 9 ∷ [])
+
+abbrev pub oneTwo : Kind
+oneTwo = OneOf (digitByte 1 ∷ digitByte 2 ∷ [])
+
+-- exact content: "C", "09", "52"
+abbrev pub exactC : Kind
+exactC = Exact (67 ∷ [])
+
+abbrev pub exact09 : Kind
+exact09 = Exact (digitByte 0 ∷ digitByte 9 ∷ [])
+
+abbrev pub exact52 : Kind
+exact52 = Exact (digitByte 5 ∷ digitByte 2 ∷ [])
+
+-- both headers
+abbrev pub company : List Field
+company =
+    field 18 18 zeroOneTwo ∷ field 19 32 Id ∷ field 33 52 T ∷ field 53 57 N ∷ field 58 58 F ∷ field 59 70 N ∷ field 71 71 F ∷ field 72 72 F
+    ∷ field 73 102 T ∷ []
+
+-- all details
+abbrev pub detail : Record → List Field
+detail r = line r ++ field 9 13 N ∷ segmentFields r
+
+-- service and form
+abbrev pub serviceField : Field
+serviceField = field 10 11 Service
+
+abbrev pub formField : Field
+formField = field 12 13 Form
+
+unfoldable pub fieldsOf : Record → List Field
+fieldsOf FileHeader =
+    line FileHeader ++ field 9 17 K ∷ company
+    ++ field 103 132 T ∷ field 133 142 K ∷ field 143 143 oneTwo ∷ field 144 151 D ∷ field 152 157 Time ∷ field 158 163 N ∷ field 164 166 N
+    ∷ field 167 171 N ∷ field 172 240 F ∷ []
+fieldsOf BatchHeader =
+    line BatchHeader ++ field 9 9 exactC ∷ serviceField ∷ formField ∷ field 14 16 N ∷ field 17 17 K ∷ company
+    ++ field 103 142 T ∷ field 143 172 T ∷ field 173 177 F ∷ field 178 192 T ∷ field 193 212 T ∷ field 213 230 F ∷ field 231 240 O ∷ []
+fieldsOf SegmentA =
+    detail SegmentA
+    ++ field 15 15 zeroNine ∷ field 16 17 N ∷ field 18 20 N ∷ field 21 23 N ∷ field 24 28 N ∷ field 29 29 F ∷ field 30 41 N ∷ field 42 42 F
+    ∷ field 43 43 F ∷ field 44 73 T ∷ field 74 93 T ∷ field 94 101 D ∷ field 102 104 F ∷ field 105 119 N ∷ field 120 134 N ∷ field 135 154 F
+    ∷ field 155 162 N ∷ field 163 177 N ∷ field 178 230 F ∷ field 231 240 O ∷ []
+fieldsOf SegmentB = detail SegmentB ++ field 15 17 F ∷ field 18 18 zeroOneTwo ∷ field 19 32 Id ∷ field 33 240 F ∷ []
+fieldsOf SegmentJ =
+    detail SegmentJ
+    ++ field 15 15 zeroNine ∷ field 16 17 N ∷ field 18 61 Barcode ∷ field 62 91 T ∷ field 92 99 D ∷ field 100 114 N ∷ field 115 129 N
+    ∷ field 130 144 N ∷ field 145 152 D ∷ field 153 167 N ∷ field 168 182 Zeros ∷ field 183 202 T ∷ field 203 222 F ∷ field 223 224 exact09
+    ∷ field 225 230 K ∷ field 231 240 O ∷ []
+fieldsOf SegmentJ52 =
+    detail SegmentJ52
+    ++ field 15 15 K ∷ field 16 17 N ∷ field 18 19 exact52 ∷ field 20 20 zeroOneTwo ∷ field 21 35 Id ∷ field 36 75 T ∷ field 76 76 zeroOneTwo
+    ∷ field 77 91 Id ∷ field 92 131 T ∷ field 132 132 zeroOneTwo ∷ field 133 147 Id ∷ field 148 187 T ∷ field 188 240 K ∷ []
+fieldsOf SegmentZ = detail SegmentZ ++ field 15 240 F ∷ []
+fieldsOf BatchTrailer =
+    line BatchTrailer
+    ++ field 9 17 K ∷ field 18 23 N ∷ field 24 41 N ∷ field 42 59 N ∷ field 60 65 N ∷ field 66 230 K ∷ field 231 240 O ∷ []
+fieldsOf FileTrailer = line FileTrailer ++ field 9 17 K ∷ field 18 23 N ∷ field 24 29 N ∷ field 30 35 N ∷ field 36 240 K ∷ []
+
+-- ---- its rule
+
+abbrev pub recordBytes : ℕ
+recordBytes = 240
+
+-- the fields cover the places from p to the record's last, with no gap and no overlap
+unfoldable pub tiles : ℕ → List Field → Bool
+tiles p [] = eqb p (suc recordBytes)
+tiles p (f ∷ fs) = eqb (f .from) p && (leb p (f .to) && tiles (suc (f .to)) fs)
+
+-- stands for a field past the table's end
+abbrev pub none : Field
+none = field 0 0 N
+
+-- one field of the list holds the place q, and no other does
+pub record HeldOnce (fs : List Field) (q : ℕ) : Type 0 where
+  pub index : ℕ
+  pub below : index < length fs
+  pub holds : ((getD fs index none) .from ≤ q) × (q ≤ (getD fs index none) .to)
+  pub only : (j : ℕ) → j < length fs → (getD fs j none) .from ≤ q → q ≤ (getD fs j none) .to → j ≡ index

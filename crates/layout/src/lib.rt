@@ -1,0 +1,67 @@
+// The layout table, and the check of one record against it.
+mod bytes;
+mod kinds;
+mod looks;
+pub mod names;
+mod pairs;
+mod table;
+mod walk;
+
+use answer::Answer;
+pub use bytes::check_bytes;
+pub use bytes::copy;
+pub use kinds::Fill;
+pub use kinds::fill_of;
+pub use table::Entry;
+pub use table::FIELDS;
+pub use table::FIXED_BYTES;
+pub use table::FROM;
+pub use table::KIND;
+pub use table::Span;
+pub use table::TO;
+pub use table::entry_at;
+pub use table::fixed_text;
+pub use table::span_of;
+ghost use mathlib.Core.Path.{_≡_};
+ghost use Rattle.answer.specs.Rules.{firstBroken};
+ghost use Rattle.layout.specs.Record.{recordRules};
+
+pub enum Direction {
+    Remittance,
+    Return,
+}
+
+pub enum Record {
+    FileHeader,
+    BatchHeader,
+    SegmentA,
+    SegmentB,
+    SegmentJ,
+    SegmentJ52,
+    SegmentZ,
+    BatchTrailer,
+    FileTrailer,
+}
+
+pub const RECORD_BYTES: usize = 240;
+
+// The paper's number for a record of another length.
+const WRONG_LENGTH: u8 = 1;
+
+// One record alone: its length, its bytes, its type and segment, then all its fields. The table and
+// the fixed byte strings are bound here, once a record, and lent down.
+pub fn check_record(rec: &[u8], which: Record, dir: Direction) -> Answer
+    ensures { λ r. ⌜ r ≡ firstBroken (recordRules which dir (now (rec .entry))) ⌝ }
+{
+    if rec.len() != RECORD_BYTES {
+        return Answer::refused(WRONG_LENGTH, 0);
+    }
+    let from = FROM;
+    let to = TO;
+    let kind = KIND;
+    let fixed = fixed_text();
+    let clean = check_bytes(rec);
+    let marks = walk::check_marks(&from, &to, &kind, &fixed, rec, which, dir);
+    let fields = walk::check_fields(&from, &to, &kind, &fixed, rec, which, dir);
+    clean.and_then(marks.and_then(fields))
+}

@@ -1,0 +1,163 @@
+// How the walk looks at a field: the rule of each kind.
+use super::Direction;
+use super::kinds;
+use super::kinds::mark_at;
+use super::pairs;
+use super::pairs::Batch;
+use answer::Answer;
+ghost use mathlib.Core.Path.{_≡_};
+ghost use mathlib.Core.List.{[]};
+ghost use Prim.Native.Nat.{_≤_};
+ghost use lib.Dec.{T as Holds};
+ghost use lib.ListN.{length};
+ghost use Rattle.answer.specs.Rules.{firstBroken};
+ghost use Rattle.layout.specs.Table.{recordBytes};
+ghost use Rattle.layout.specs.Kinds.{aPart, oneOf, pairRule, barcodeRules};
+ghost use Rattle.layout.specs.Lent.{firstMark, lastMark, kindOf};
+ghost use Rattle.layout.specs.Steps.{mayBe, Looked, markLook, textLook};
+ghost use Rattle.layout.specs.declared.Direction.the-variants.{Remittance};
+ghost use Rattle.layout.specs.declared.looks.Look.the-variants.{Text};
+
+// The paper's numbers.
+const TYPE: u8 = 6;
+
+pub(crate) const NON_DIGIT: u8 = 8;
+
+const SEGMENT: u8 = 11;
+
+const FIXED: u8 = 12;
+
+const TEXT: u8 = 13;
+
+const DOMAIN: u8 = 14;
+
+const DATE: u8 = 15;
+
+// Places of the service and the form.
+const SERVICE_FROM: usize = 10;
+
+const SERVICE_TO: usize = 11;
+
+const FORM_TO: usize = 13;
+
+// For digits, for the byte string that begins here in the fixed text, or not at all, because the
+// field has been tested whole.
+pub(crate) enum Look {
+    Digits,
+    Text { number: u8, at: usize },
+    Tested(Answer),
+}
+
+fn one_of(domain: &[u8], part: &[u8]) -> bool
+    ensures { λ r. ⌜ r ≡ oneOf (now (domain .entry)) (now (part .entry)) ⌝ }
+{
+    if part.len() != 1 {
+        return false;
+    }
+    let b = part[0];
+    let mut i = 0;
+    while i < domain.len() {
+        if b == domain[i] {
+            return true;
+        }
+        i += 1;
+    }
+    false
+}
+
+// The digits of a barcode, then its currency.
+fn barcode(part: &[u8], place: usize) -> Answer
+    requires { ⌜ place ≤ recordBytes ⌝ }
+    ensures { λ r. ⌜ r ≡ firstBroken (barcodeRules (aPart place (now (part .entry)) [] Remittance)) ⌝ }
+{
+    let spelled = digits::leading(part) == part.len();
+    let digits = Answer::test(NON_DIGIT, place, spelled);
+    let currency = boleto::currency_fits(part);
+    digits.and_then(Answer::test(DOMAIN, place + (boleto::CURRENCY_PLACE - 1), currency))
+}
+
+// Service and form, which stand in the record.
+fn pair(rec: &[u8], dir: Direction) -> Answer
+    requires { ⌜ length (now rec) ≡ recordBytes ⌝ }
+    ensures { λ r. ⌜ r ≡ firstBroken (pairRule (aPart 0 [] (now (rec .entry)) dir)) ⌝ }
+{
+    let service = &rec[SERVICE_FROM - 1..SERVICE_TO];
+    let form = &rec[SERVICE_TO..FORM_TO];
+    match pairs::batch_of(dir, service, form) {
+        Batch::Credit => Answer::Accepted,
+        Batch::Boleto => Answer::Accepted,
+        Batch::Unknown => Answer::refused(DOMAIN, SERVICE_FROM),
+    }
+}
+
+// How to look at a type or a segment.
+fn mark(k: u8) -> Look
+    requires { ⌜ (firstMark ≤ k) × (k ≤ lastMark) ⌝ }
+    ensures { λ r. ⌜ r ≡ markLook k ⌝ }
+{
+    let at = mark_at(k);
+    if k < b'A' {
+        Look::Text { number: TYPE, at }
+    } else {
+        Look::Text {
+            number: SEGMENT,
+            at,
+        }
+    }
+}
+
+// Text has to be looked at only where its first byte is blank.
+fn text(part: &[u8]) -> Look
+    ensures { λ r. ⌜ r ≡ textLook (now (part .entry)) ⌝ }
+{
+    if part.len() == 0 {
+        return Look::Tested(Answer::Accepted);
+    }
+    if part[0] != b' ' {
+        return Look::Tested(Answer::Accepted);
+    }
+    Look::Text {
+        number: TEXT,
+        at: kinds::BLANKS_AT,
+    }
+}
+
+fn fixed_at(at: usize) -> Look
+    ensures { λ r. ⌜ r ≡ Text 12 at ⌝ }
+{
+    Look::Text { number: FIXED, at }
+}
+
+// The rule of each kind, for a field from this place on.
+pub(crate) fn look_at(k: u8, dir: Direction, part: &[u8], rec: &[u8], place: usize) -> Look
+    requires { ⌜ Holds (mayBe (kindOf k) (length (now part))) ⌝ }
+    requires { ⌜ (length (now rec) ≡ recordBytes) × (place ≤ recordBytes) ⌝ }
+    ensures { λ r. ⌜ Looked (kindOf k) (aPart place (now (part .entry)) (now (rec .entry)) dir) r ⌝ }
+{
+    if (b'0' <= k) & (k <= b'Z') {
+        return mark(k);
+    }
+    match k {
+        kinds::N => Look::Digits,
+        kinds::ID => Look::Digits,
+        kinds::T => text(part),
+        kinds::D => Look::Tested(Answer::test(DATE, place, calendar::date_fits(part))),
+        kinds::TIME => Look::Tested(Answer::test(DATE, place, calendar::time_fits(part))),
+        kinds::K => fixed_at(kinds::BLANKS_AT),
+        kinds::O => match dir {
+            Direction::Remittance => fixed_at(kinds::BLANKS_AT),
+            Direction::Return => Look::Tested(Answer::Accepted),
+        },
+        kinds::ZEROS => fixed_at(kinds::ZEROS_AT),
+        kinds::EXACT_C => fixed_at(kinds::C_AT),
+        kinds::EXACT_09 => fixed_at(kinds::CODE_09_AT),
+        kinds::EXACT_52 => fixed_at(kinds::CODE_52_AT),
+        kinds::ZERO_ONE_TWO => Look::Tested(Answer::test(DOMAIN, place, one_of(b"012", part))),
+        kinds::ZERO_NINE => Look::Tested(Answer::test(DOMAIN, place, one_of(b"09", part))),
+        kinds::ONE_TWO => Look::Tested(Answer::test(DOMAIN, place, one_of(b"12", part))),
+        kinds::SERVICE => Look::Tested(pair(rec, dir)),
+        kinds::FORM => Look::Tested(pair(rec, dir)),
+        kinds::BARCODE => Look::Tested(barcode(part, place)),
+        _ => Look::Tested(Answer::Accepted),
+    }
+}

@@ -1,0 +1,155 @@
+// The walk over a record's fields and their bytes, left at the first wrong byte.
+use super::Direction;
+use super::Record;
+use super::looks::Look;
+use super::looks::NON_DIGIT;
+use super::looks::look_at;
+use super::table;
+use super::table::Entry;
+use super::table::FIELDS;
+use answer::Answer;
+ghost use mathlib.Core.Path.{_≡_};
+ghost use Prim.Native.Nat.{_≤_, _<_};
+ghost use lib.ListN.{length};
+ghost use lib.Seq.{slice};
+ghost use Rattle.answer.specs.Rules.{firstBroken};
+ghost use Rattle.layout.specs.Table.{recordBytes, marks, fieldsOf};
+ghost use Rattle.layout.specs.Record.{rulesOf};
+ghost use Rattle.layout.specs.Lent.{fieldCount, all, fixedText, Columns};
+ghost use Rattle.layout.specs.Steps.{hasSegment};
+ghost use Rattle.layout.specs.laws.Columns.{Stands};
+
+// Where type and segment stand among a record's fields.
+const TYPE_FIELD: usize = 2;
+
+const SEGMENT_FIELD: usize = 4;
+
+// An entry of the table, whose columns are lent.
+fn field_at(from: &[u8; FIELDS], to: &[u8; FIELDS], kind: &[u8; FIELDS], f: usize) -> Entry
+    requires { ⌜ Columns (now from) (now to) (now kind) ⌝ }
+    requires { ⌜ f < fieldCount ⌝ }
+    ensures { λ r. ⌜ Stands f (r .from) (r .to) (r .kind) ⌝ }
+{
+    table::entry_at(from, to, kind, f)
+}
+
+// The rules of the fields from `first` up to `past`.
+fn walk(
+    from: &[u8; FIELDS],
+    to: &[u8; FIELDS],
+    kind: &[u8; FIELDS],
+    fixed: &[u8],
+    rec: &[u8],
+    first: usize,
+    past: usize,
+    dir: Direction,
+) -> Answer
+    requires { ⌜ Columns (now from) (now to) (now kind) ⌝ }
+    requires { ⌜ now fixed ≡ fixedText ⌝ }
+    requires { ⌜ (length (now rec) ≡ recordBytes) × (first ≤ past) × (past ≤ fieldCount) ⌝ }
+    ensures { λ r. ⌜ r ≡ firstBroken (rulesOf (slice first past all) dir (now (rec .entry))) ⌝ }
+{
+    let mut f = first;
+    'fields: loop {
+        if f >= past {
+            break 'fields Answer::Accepted;
+        }
+        let e = field_at(from, to, kind, f);
+        let k = e.kind;
+        let place = e.from;
+        let start = place - 1;
+        let end = e.to;
+        let part = &rec[start..end];
+        let how = look_at(k, dir, part, rec, place);
+        match how {
+            Look::Digits => {
+                let mut i = 0;
+                while i < part.len() {
+                    let b = part[i];
+                    if !((b'0' <= b) & (b <= b'9')) {
+                        break 'fields Answer::refused(NON_DIGIT, place);
+                    }
+                    i += 1;
+                }
+            }
+            Look::Text { number, at } => {
+                let text_end = at + part.len();
+                let text = &fixed[at..text_end];
+                let mut i = 0;
+                while i < part.len() {
+                    if part[i] != text[i] {
+                        break 'fields Answer::refused(number, place);
+                    }
+                    i += 1;
+                }
+            }
+            Look::Tested(answer) => match answer {
+                Answer::Accepted => {}
+                Answer::Refused(_) => {
+                    break 'fields answer;
+                }
+            },
+        }
+        f += 1;
+    }
+}
+
+fn has_segment(which: Record) -> bool
+    ensures { λ r. ⌜ r ≡ hasSegment which ⌝ }
+{
+    match which {
+        Record::FileHeader => false,
+        Record::BatchHeader => false,
+        Record::SegmentA => true,
+        Record::SegmentB => true,
+        Record::SegmentJ => true,
+        Record::SegmentJ52 => true,
+        Record::SegmentZ => true,
+        Record::BatchTrailer => false,
+        Record::FileTrailer => false,
+    }
+}
+
+// The record's type, and its segment if it has one.
+pub(crate) fn check_marks(
+    from: &[u8; FIELDS],
+    to: &[u8; FIELDS],
+    kind: &[u8; FIELDS],
+    fixed: &[u8],
+    rec: &[u8],
+    which: Record,
+    dir: Direction,
+) -> Answer
+    requires { ⌜ Columns (now from) (now to) (now kind) ⌝ }
+    requires { ⌜ now fixed ≡ fixedText ⌝ }
+    requires { ⌜ length (now rec) ≡ recordBytes ⌝ }
+    ensures { λ r. ⌜ r ≡ firstBroken (rulesOf (marks which) dir (now (rec .entry))) ⌝ }
+{
+    let s = table::span_of(which);
+    let type_at = s.first + TYPE_FIELD;
+    let type_fits = walk(from, to, kind, fixed, rec, type_at, type_at + 1, dir);
+    if !has_segment(which) {
+        return type_fits;
+    }
+    let segment_at = s.first + SEGMENT_FIELD;
+    type_fits.and_then(walk(from, to, kind, fixed, rec, segment_at, segment_at + 1, dir))
+}
+
+// All fields of a record.
+pub(crate) fn check_fields(
+    from: &[u8; FIELDS],
+    to: &[u8; FIELDS],
+    kind: &[u8; FIELDS],
+    fixed: &[u8],
+    rec: &[u8],
+    which: Record,
+    dir: Direction,
+) -> Answer
+    requires { ⌜ Columns (now from) (now to) (now kind) ⌝ }
+    requires { ⌜ now fixed ≡ fixedText ⌝ }
+    requires { ⌜ length (now rec) ≡ recordBytes ⌝ }
+    ensures { λ r. ⌜ r ≡ firstBroken (rulesOf (fieldsOf which) dir (now (rec .entry))) ⌝ }
+{
+    let s = table::span_of(which);
+    walk(from, to, kind, fixed, rec, s.first, s.past, dir)
+}

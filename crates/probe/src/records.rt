@@ -1,0 +1,133 @@
+// Reading and writing one record.
+use super::reply;
+use answer::Answer;
+use digits::Number;
+use fields::Fields;
+use layout::Direction;
+use layout::RECORD_BYTES;
+use layout::Record;
+ghost use mathlib.Core.Path.{_≡_};
+ghost use Prim.Native.Nat.{_≤_};
+ghost use lib.ListN.{length};
+ghost use Rattle.probe.specs.Sizes.{numberDigits};
+
+// How many digits a payload has for a number: as many as 64 bits may need, one more than are read at
+// once.
+const NUMBER_DIGITS: usize = 20;
+
+// What the first of them counts, and the most that may follow a 1.
+const FIRST_DIGIT: u64 = 10000000000000000000;
+
+const MOST_BEHIND_ONE: u64 = 8446744073709551615;
+
+struct Given {
+    right: bool,
+    fields: Fields,
+}
+
+// The number of 20 digits, where it fits.
+fn number_of(text: &[u8]) -> Number
+    requires { ⌜ length (now text) ≡ numberDigits ⌝ }
+{
+    let Number::Is(first) = digits::number_of(&text[0..1]) else {
+        return Number::Not;
+    };
+    let Number::Is(behind) = digits::number_of(&text[1..NUMBER_DIGITS]) else {
+        return Number::Not;
+    };
+    if first == 0 {
+        return Number::Is(behind);
+    }
+    if first == 1 {
+        if behind <= MOST_BEHIND_ONE {
+            return Number::Is(FIRST_DIGIT + behind);
+        }
+    }
+    Number::Not
+}
+
+fn count(which: Record) -> usize
+    ensures { λ r. ⌜ r ≤ 32 ⌝ }
+{
+    fields::count(which)
+}
+
+fn text_of(payload: &[u8]) -> [u8; RECORD_BYTES] {
+    let mut text = [0; RECORD_BYTES];
+    layout::copy(payload, &mut text);
+    text
+}
+
+fn none() -> Given {
+    let fields = Fields::none();
+    Given {
+        right: false,
+        fields,
+    }
+}
+
+// The fields that a payload gives, if it is one of this kind of record.
+fn fields_of(payload: &[u8], which: Record) -> Given {
+    let many = count(which);
+    let numbers_end = many * NUMBER_DIGITS;
+    if payload.len() != numbers_end + RECORD_BYTES {
+        return none();
+    }
+    let mut fields = Fields::none();
+    let mut i = 0;
+    while i < many {
+        let start = i * NUMBER_DIGITS;
+        let end = start + NUMBER_DIGITS;
+        let Number::Is(n) = number_of(&payload[start..end]) else {
+            return none();
+        };
+        fields = fields.with_number(i, n);
+        i += 1;
+    }
+    let numbers = fields.numbers;
+    let text = text_of(&payload[numbers_end..]);
+    Given {
+        right: true,
+        fields: Fields { numbers, text },
+    }
+}
+
+fn print_fields(fields: Fields, which: Record) {
+    let many = count(which);
+    let mut i = 0;
+    while i < many {
+        if fields::is_number(which, i) {
+            reply::spaced(fields.number_at(i));
+        } else {
+            reply::bytes(b" -");
+        }
+        i += 1;
+    }
+}
+
+pub(crate) fn read(payload: &[u8], which: Record, dir: Direction) {
+    let record = fields::read_record(payload, which, dir);
+    let answer = record.answer;
+    match answer {
+        Answer::Refused(_) => reply::line(answer),
+        Answer::Accepted => {
+            let fields = record.fields;
+            reply::bytes(b"OK");
+            print_fields(fields, which);
+            reply::bytes(b"\n");
+            let text = fields.text;
+            reply::bytes(&text);
+            reply::bytes(b"\n");
+        }
+    }
+}
+
+pub(crate) fn write(payload: &[u8], which: Record, dir: Direction, out: &mut [u8]) {
+    let asked = fields_of(payload, which);
+    if asked.right {
+        let fields = asked.fields;
+        reply::memory(fields::write_record(fields, which, dir, out), out);
+    } else {
+        reply::malformed();
+    }
+}
