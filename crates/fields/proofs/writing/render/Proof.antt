@@ -50,7 +50,7 @@ loop-again c =
       search needs,
       c .before .out .given .1 ∙ l .loop .inv .4,
       search needs,
-      put-more _ _ _ _ _ _ _ (l .loop .inv .0) (at-field .before .loop-test .taken) (l .loop .inv .2) (at-field .field-at .ensures) (c .before .before .write-field .ensures) ∙ l .loop .inv .6,
+      put-more _ _ _ _ _ _ _ (l .loop .inv .0) (search needs) (l .loop .inv .2) (at-field .field-at .ensures) (c .before .before .write-field .ensures) ∙ l .loop .inv .6,
     )
 
 same-length : tie.Need-same-length Inv-loop μ-loop
