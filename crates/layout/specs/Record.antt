@@ -37,6 +37,10 @@ allPrintable bs = eqb (clean bs) (length bs)
 abbrev pub byteRule : List ℕ → Rule
 byteRule rec = rule 4 (suc (clean rec)) (allPrintable rec)
 
--- its length, its bytes, its type and its segment, then all fields
+-- its length, its bytes, its type and its segment
+abbrev pub firstRules : Record → Direction → List ℕ → List Rule
+firstRules r d rec = rule 1 0 (eqb (length rec) recordBytes) ∷ byteRule rec ∷ rulesOf (marks r) d rec
+
+-- then all fields
 unfoldable pub recordRules : Record → Direction → List ℕ → List Rule
-recordRules r d rec = rule 1 0 (eqb (length rec) recordBytes) ∷ byteRule rec ∷ rulesOf (marks r) d rec ++ rulesOf (fieldsOf r) d rec
+recordRules r d rec = firstRules r d rec ++ rulesOf (fieldsOf r) d rec

@@ -20,9 +20,9 @@ use Rattle.digits.specs.declared.spelling.Number.{Number}
 use Rattle.digits.specs.declared.spelling.Number.the-variants.{Is, Not}
 use Rattle.calendar.specs.Calendar.{numberFits, dateFits, timeFits}
 use Rattle.layout.specs.Pairs.{Pairs, pairs, among, batchAmong, batchOf, known}
-use Rattle.layout.specs.Table.{Kind, N, Id, T as Text, F, D, Time, K, O, Zeros, Exact, OneOf, Service, Form, Barcode, RecordType, Segment, Field, part, marks, fieldsOf, recordBytes, none, serviceField, formField}
+use Rattle.layout.specs.Table.{Kind, N, Id, T as Text, F, D, Time, K, O, Zeros, Exact, OneOf, Service, Form, Barcode, RecordType, Segment, Field, part, fieldsOf, recordBytes, none, serviceField, formField}
 use Rattle.layout.specs.Kinds.{Held, asNumber, asBytes, asFixed, means, isFixed, oneOf}
-use Rattle.layout.specs.Record.{partOf, fieldRules, rulesOf, byteRule, recordRules}
+use Rattle.layout.specs.Record.{partOf, fieldRules, rulesOf, firstRules, recordRules}
 use Rattle.layout.specs.laws.Bytes.{and-left, and-right, same-true, no-service, no-form}
 use Rattle.layout.specs.laws.Sound.{width, fills, stands, proper, Sound, sound-at}
 use Rattle.layout.specs.declared.Direction.{Direction}
@@ -145,10 +145,6 @@ module _ (f : Field) (d : Direction) (rec : List ℕ) (s : Sound f) where
 pub back-accepted : (xs ys : List Rule) → firstBroken (xs ++ ys) ≡ Accepted → firstBroken ys ≡ Accepted
 back-accepted xs ys e = gone-on xs ys (front-accepted xs ys e) ∙ e
 
--- a record's rules before its fields'
-abbrev pub before : Record → Direction → List ℕ → List Rule
-before r d rec = rule 1 0 (eqb (length rec) recordBytes) ∷ byteRule rec ∷ rulesOf (marks r) d rec
-
 pub rules-at : (fs : List Field) (d : Direction) (rec : List ℕ) (j : ℕ) → j < length fs
     → rulesOf fs d rec ≡ rulesOf (take j fs) d rec ++ (fieldRules (getD fs j none) d rec ++ rulesOf (drop (suc j) fs) d rec)
 unfolding rulesOf
@@ -165,5 +161,5 @@ module _ (r : Record) (d : Direction) (rec : List ℕ) (e : firstBroken (recordR
   pub right-field : (j : ℕ) → j < length (fieldsOf r) → let f = getD (fieldsOf r) j none in Kept (part f rec) (heldAs f)
   unfolding recordRules
   right-field j h =
-      let fields = rw (rules-at (fieldsOf r) d rec j h) at (back-accepted (before r d rec) (rulesOf (fieldsOf r) d rec) e) in
+      let fields = rw (rules-at (fieldsOf r) d rec j h) at (back-accepted (firstRules r d rec) (rulesOf (fieldsOf r) d rec) e) in
       kept _ d rec (sound-at r j h) (front-accepted _ _ (back-accepted (rulesOf (take j (fieldsOf r)) d rec) _ fields))

@@ -12,7 +12,7 @@ use Rattle.digits.specs.laws.Numerals.{wide-not-parsed}
 use Rattle.digits.specs.declared.spelling.Number.the-variants.{Not}
 use Rattle.layout.specs.Table.{part, fieldsOf, recordBytes, none}
 use Rattle.layout.specs.Kinds.{asNumber}
-use Rattle.layout.specs.Record.{fieldRules, rulesOf, recordRules}
+use Rattle.layout.specs.Record.{fieldRules, rulesOf, firstRules, recordRules}
 use Rattle.layout.specs.laws.Sound.{width, sound-at}
 use Rattle.layout.specs.declared.Direction.{Direction}
 use Rattle.layout.specs.declared.Record.{Record}
@@ -20,7 +20,7 @@ use Rattle.layout.specs.declared.Record.the-variants.{BatchHeader}
 use Rattle.fields.specs.Values.{heldAs, recordOf}
 use Rattle.fields.specs.Wide.{wideNumber, widePlace}
 use Rattle.fields.specs.laws.Parts.{holds, part-width}
-use Rattle.fields.specs.laws.Kept.{no-number, before, rules-at}
+use Rattle.fields.specs.laws.Kept.{no-number, rules-at}
 use Rattle.fields.specs.declared.Fields.{Fields}
 
 module _ (r : Record) (d : Direction) (v : Fields) (full : length (v .text) ≡ recordBytes) (j : ℕ) (h : j < length (fieldsOf r)) where
@@ -38,24 +38,24 @@ module _ (r : Record) (d : Direction) (v : Fields) (full : length (v .text) ≡ 
   module _ (i : ℕ) (k : i < length (fieldsOf r)) where
     refused-first : let f = getD (fieldsOf r) j none in fieldRules (getD (fieldsOf r) i none) d (recordOf r v) ≡ fieldRules f d (recordOf r v)
         → heldAs f ≡ asNumber → 10 ^ width f ≤ getD (v .numbers) j 0
-        → firstBroken (before r d (recordOf r v) ++ rulesOf (take i (fieldsOf r)) d (recordOf r v)) ≡ Accepted
+        → firstBroken (firstRules r d (recordOf r v) ++ rulesOf (take i (fieldsOf r)) d (recordOf r v)) ≡ Accepted
         → firstBroken (recordRules r d (recordOf r v)) ≡ refusedAs (wideNumber (f .kind)) (widePlace f)
     unfolding recordRules
     refused-first same a l e =
         let rec = recordOf r v in
-        rw (rules-at (fieldsOf r) d rec i k, ← (append-assoc (before r d rec) (rulesOf (take i (fieldsOf r)) d rec) _))
+        rw (rules-at (fieldsOf r) d rec i k, ← (append-assoc (firstRules r d rec) (rulesOf (take i (fieldsOf r)) d rec) _))
         (sym (stopped _ (rulesOf (drop (suc i) (fieldsOf r)) d rec) _ (ap firstBroken same ∙ too-wide a l)
-        ∙ gone-on (before r d rec ++ rulesOf (take i (fieldsOf r)) d rec) _ e))
+        ∙ gone-on (firstRules r d rec ++ rulesOf (take i (fieldsOf r)) d rec) _ e))
 
   -- the record: the rules before the field's are kept
   pub too-wide-refused : let f = getD (fieldsOf r) j none in heldAs f ≡ asNumber → 10 ^ width f ≤ getD (v .numbers) j 0
-      → firstBroken (before r d (recordOf r v) ++ rulesOf (take j (fieldsOf r)) d (recordOf r v)) ≡ Accepted
+      → firstBroken (firstRules r d (recordOf r v) ++ rulesOf (take j (fieldsOf r)) d (recordOf r v)) ≡ Accepted
       → firstBroken (recordRules r d (recordOf r v)) ≡ refusedAs (wideNumber (f .kind)) (widePlace f)
   too-wide-refused = refused-first j h refl
 
 -- a form breaks the service's rule too, which stands before its own: the rules before the service's are kept
 pub wide-form : (d : Direction) (v : Fields) → length (v .text) ≡ recordBytes → let rec = recordOf BatchHeader v in
-    100 ≤ getD (v .numbers) 5 0 → firstBroken (before BatchHeader d rec ++ rulesOf (take 4 (fieldsOf BatchHeader)) d rec) ≡ Accepted
+    100 ≤ getD (v .numbers) 5 0 → firstBroken (firstRules BatchHeader d rec ++ rulesOf (take 4 (fieldsOf BatchHeader)) d rec) ≡ Accepted
     → firstBroken (recordRules BatchHeader d rec) ≡ refusedAs 14 10
 unfolding fieldsOf
 wide-form d v full = refused-first BatchHeader d v full 5 (lit≤ tt) 4 (lit≤ tt) refl refl
