@@ -2,6 +2,8 @@
 
 use crate::faults::Fault;
 
+/// Due factors count days after this one: day, month and year.
+const DAY_OF_FACTOR_ZERO: (u32, u32, u32) = (7, 10, 1997);
 pub const FIRST_YEAR: u32 = 1997;
 pub const LAST_YEAR: u32 = 2199;
 const LAST_HOUR: u32 = 23;
@@ -68,6 +70,21 @@ impl Calendar {
             1..=12 => 31,
             _ => 0,
         }
+    }
+
+    /// DDMMAAAA of the day that a due factor other than 0 means.
+    pub fn date_of_factor(&self, factor: u32) -> Vec<u8> {
+        let (mut day, mut month, mut year) = DAY_OF_FACTOR_ZERO;
+        day += factor;
+        while day > self.days_in(month, year) {
+            day -= self.days_in(month, year);
+            month += 1;
+            if month > 12 {
+                month = 1;
+                year += 1;
+            }
+        }
+        format!("{day:02}{month:02}{year:04}").into_bytes()
     }
 
     fn is_leap(&self, year: u32) -> bool {

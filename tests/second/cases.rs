@@ -1,14 +1,20 @@
-//! How the requests are made: one long stream of good and malformed requests,
-//! and short streams that are cut in the middle of a request.
+//! How the requests are made: one long stream about digit strings and records
+//! with malformed requests among them, streams about files, and short streams
+//! that are cut in the middle of a request.
 
-use crate::digit_cases::{self, PAPER_BARCODE, PAPER_LINE};
+use std::iter;
+
+use crate::digit_cases::{self, PAPER_LINE};
+use crate::file_cases::{self, FileCases};
+use crate::file_rules::LINE_BYTES;
+use crate::good_barcodes::{self, PAPER_BARCODE};
 use crate::probe::{self, Header, Op, Request, BYTES_LIMIT, HEADER_BYTES, UNUSED};
 use crate::probe::{DIRECTION_AT, KIND_AT, OP_AT};
 use crate::random::Random;
 use crate::record_kinds::{Direction, RecordKind, Subject};
 use crate::record_table::RECORD_BYTES;
 use crate::records::Values;
-use crate::{record_cases, record_write_cases};
+use crate::{large_file_cases, line_call_cases, plain_files, record_cases, record_write_cases};
 
 const BARCODE_SEED: u64 = 1;
 const DIGIT_STRING_SEED: u64 = 2;
@@ -16,6 +22,14 @@ const MALFORMED_SEED: u64 = 3;
 const ORDER_SEED: u64 = 4;
 const RECORD_SEED: u64 = 6;
 const RECORD_WRITE_SEED: u64 = 7;
+const LARGE_FILE_SEED: u64 = 8;
+const PAIRS_OF_FLAWS_SEED: u64 = 10;
+const ROUNDS_OF_PAIRS: usize = 2;
+/// The first of the streams about files has this seed, the others the next ones.
+const FIRST_FILE_SEED: u64 = 100;
+const FILE_STREAMS: u64 = 16;
+/// How often each good request stands among those about files.
+const GOOD_REQUESTS_AMONG_FILES: usize = 10;
 
 /// Bytes that are wrong in some part of a header. None of them is a letter,
 /// so that later ops do not turn these requests into good ones.
@@ -27,6 +41,7 @@ const HEADERS_WITH_SEVERAL_CHANGES: usize = 200;
 const MOST_HEADER_CHANGES: usize = 3;
 const LARGEST_SIX_DIGITS: usize = 999_999;
 const ROOM: usize = 50;
+const ROOM_UNUSED: [Op; 3] = [Op::ReadRecord, Op::CheckFile, Op::CheckLines];
 /// A file trailer, but for the blanks behind it.
 const FILE_TRAILER: &[u8] = b"23799999         000001000006000000";
 
@@ -36,44 +51,97 @@ pub struct Stream {
     pub cut_request: Vec<u8>,
 }
 
+impl Stream {
+    /// Good and malformed, large and small requests alternate, so that nothing
+    /// kept from one call goes unseen in the next.
+    fn shuffled(mut requests: Vec<Request>, random: &mut Random) -> Stream {
+        random.shuffle(&mut requests);
+        Stream {
+            requests,
+            cut_request: Vec::new(),
+        }
+    }
+}
+
 pub fn accepted_barcodes() -> Vec<Vec<u8>> {
-    digit_cases::accepted_barcodes(&mut Random::with_seed(BARCODE_SEED))
+    good_barcodes::accepted_barcodes(&mut Random::with_seed(BARCODE_SEED))
 }
 
-pub fn streams(barcodes: &[Vec<u8>]) -> Vec<Stream> {
-    let mut streams = vec![whole_stream(barcodes)];
-    streams.extend(cut_streams());
-    streams
+/// All streams, each made only when it is wanted: together they are large, and
+/// a seeded fault is mostly caught in the first of them.
+pub fn streams(barcodes: &[Vec<u8>]) -> impl Iterator<Item = Stream> + '_ {
+    let strings = iter::once_with(move || stream_of_strings(barcodes));
+    let cut = iter::once_with(cut_streams).flatten();
+    strings.chain(file_streams()).chain(cut)
 }
 
-/// Shuffled, so that good and malformed, large and small requests alternate
-/// and nothing kept from one call goes unseen in the next.
-fn whole_stream(barcodes: &[Vec<u8>]) -> Stream {
+/// The streams about files, the one with the large ones early among them.
+pub fn file_streams() -> impl Iterator<Item = Stream> {
+    let mut seeds = (0..FILE_STREAMS).map(|index| FIRST_FILE_SEED + index);
+    let first = seeds.next().into_iter().map(stream_of_files);
+    let large = iter::once_with(stream_of_large_files);
+    let pairs = iter::once_with(stream_of_pairs_of_flaws);
+    let others = seeds.map(stream_of_files);
+    first.chain(large).chain(pairs).chain(others)
+}
+
+fn stream_of_files(seed: u64) -> Stream {
+    let mut random = Random::with_seed(seed);
+    let mut cases = FileCases::new(&mut random);
+    cases.ask_files();
+    cases.ask_line_calls();
+    let mut requests = cases.requests;
+    for _ in 0..GOOD_REQUESTS_AMONG_FILES {
+        requests.extend(good_requests());
+    }
+    Stream::shuffled(requests, &mut random)
+}
+
+/// Each pair more than once, since a flaw can be put in various ways.
+fn stream_of_pairs_of_flaws() -> Stream {
+    let mut random = Random::with_seed(PAIRS_OF_FLAWS_SEED);
+    let mut cases = FileCases::new(&mut random);
+    for _ in 0..ROUNDS_OF_PAIRS {
+        cases.ask_pairs_of_flaws();
+    }
+    let requests = cases.requests;
+    Stream::shuffled(requests, &mut random)
+}
+
+fn stream_of_large_files() -> Stream {
+    let mut random = Random::with_seed(LARGE_FILE_SEED);
+    let mut requests = large_file_cases::requests(&mut random);
+    requests.extend(file_cases::unlikely_files(&mut random));
+    requests.extend(line_call_cases::unlikely_calls(&mut random));
+    Stream::shuffled(requests, &mut random)
+}
+
+fn stream_of_strings(barcodes: &[Vec<u8>]) -> Stream {
     let mut random = Random::with_seed(DIGIT_STRING_SEED);
     let mut requests = digit_cases::requests(&mut random, barcodes);
     requests.extend(record_cases::requests(&mut Random::with_seed(RECORD_SEED)));
     let mut random = Random::with_seed(RECORD_WRITE_SEED);
     requests.extend(record_write_cases::requests(&mut random));
     requests.extend(malformed_requests());
-    Random::with_seed(ORDER_SEED).shuffle(&mut requests);
-    Stream {
-        requests,
-        cut_request: Vec::new(),
-    }
+    Stream::shuffled(requests, &mut Random::with_seed(ORDER_SEED))
 }
 
-fn good_requests() -> [Request; 4] {
+fn good_requests() -> [Request; 6] {
     let mut record = FILE_TRAILER.to_vec();
     record.resize(RECORD_BYTES, b' ');
     let kind = RecordKind::FileTrailer;
     let direction = Direction::Remittance;
     let subject = Subject { kind, direction };
     let values = Values::of_record(kind, &record).to_payload();
+    let file = plain_files::one_payment();
+    let calls = probe::payload_of_calls(file.chunks(LINE_BYTES));
     [
         Request::new(Op::BarcodeToLine, UNUSED, ROOM, PAPER_BARCODE.to_vec()),
         Request::new(Op::LineToBarcode, UNUSED, ROOM, PAPER_LINE.to_vec()),
         Request::about_record(Op::ReadRecord, subject, 0, record),
         Request::about_record(Op::WriteRecord, subject, RECORD_BYTES, values),
+        Request::new(Op::CheckFile, UNUSED, 0, file),
+        Request::new(Op::CheckLines, UNUSED, 0, calls),
     ]
 }
 
@@ -95,8 +163,8 @@ fn headers_over_the_limit(good: &Header) -> Vec<Header> {
     let mut headers = Vec::new();
     for too_much in [BYTES_LIMIT + 1, LARGEST_SIX_DIGITS] {
         headers.push(with_sizes(good, 0, too_much));
-        // The room of a request to read is not used, so no size of it is wrong.
-        if good[OP_AT] != Op::ReadRecord.code() {
+        // Where the room is not used, no size of it is wrong.
+        if !ROOM_UNUSED.map(Op::code).contains(&good[OP_AT]) {
             headers.push(with_sizes(good, too_much, 0));
             headers.push(with_sizes(good, too_much, PAPER_LINE.len()));
         }
@@ -152,13 +220,14 @@ fn with_bait(header: Header) -> Request {
 /// Headers cut at each length (0 is a stream that ends as it should), and
 /// payloads cut short, of good requests and of a malformed one.
 fn cut_streams() -> Vec<Stream> {
-    let [barcode, line, read, write] = good_requests();
+    let good = good_requests();
+    let barcode = &good[0];
     let unknown_op = with_bait(changed(&barcode.header, OP_AT, b'?'));
     let mut streams = Vec::new();
     for kept in 0..HEADER_BYTES {
-        streams.push(stream_cut_in(&barcode, kept));
+        streams.push(stream_cut_in(barcode, kept));
     }
-    for request in [&barcode, &line, &read, &write, &unknown_op] {
+    for request in good.iter().chain([&unknown_op]) {
         let whole = HEADER_BYTES + request.payload.len();
         for kept in [HEADER_BYTES, HEADER_BYTES + 1, whole - 1] {
             streams.push(stream_cut_in(request, kept));

@@ -6,10 +6,11 @@ use crate::digit_strings::{
     Conversion, DigitRules, BARCODE_CHECK_PLACE, BARCODE_DIGITS, CURRENCY, CURRENCY_PLACE,
     FIELD_CHECK_PLACES, LINE_DIGITS,
 };
+use crate::good_barcodes::{checked_barcode_that, digits, few_of_each_check};
+use crate::good_barcodes::{set_general_check, unchecked_barcode, PAPER_BARCODE};
 use crate::probe::{Request, BYTES_LIMIT, DIRECTIONS};
 use crate::random::Random;
 
-pub const PAPER_BARCODE: &[u8] = b"08592726900000100001040800011111000000000401";
 pub const PAPER_LINE: &[u8] = b"08591040850001111100200000004010272690000010000";
 /// As document 004 prints it, with a second field check that is wrong.
 pub const DOCUMENT_004_LINE: &[u8] = b"08591040850001111100500000004010372690000010000";
@@ -27,11 +28,6 @@ const LARGE_LENGTHS: [usize; 6] = [1_000, 65_535, 65_536, 300_000, BYTES_LIMIT -
 const SPARE_ROOMS: [usize; 3] = [0, 1, 20];
 const LONGEST_SHORT_STRING: usize = 60;
 
-const BARCODES_PER_CHECK: usize = 20;
-/// Check 1 stands for three remainders and is where strings are less guarded.
-const BARCODES_WITH_CHECK_ONE: usize = 60;
-const CHANGED_PER_CHECK: usize = 1;
-const CHANGED_WITH_CHECK_ONE: usize = 3;
 const BARCODES_PER_REMAINDER: usize = 5;
 /// The remainders of the general check that all give digit 1.
 const REMAINDERS_OF_CHECK_ONE: [u32; 3] = [0, 1, 10];
@@ -42,12 +38,7 @@ const STRINGS_WITH_SEVERAL_CHANGES: usize = 1_500;
 const MOST_CHANGES: usize = 4;
 const RANDOM_STRINGS: usize = 200;
 
-const FACTOR_DIGITS: usize = 4;
-const CENTS_DIGITS: usize = 10;
-const FREE_DIGITS: usize = 25;
-const ZEROS_ONCE_IN: usize = 4;
 const NON_DIGIT_ONCE_IN: usize = 8;
-const FACTORS: [&[u8; FACTOR_DIGITS]; 5] = [b"0000", b"0001", b"1000", b"7269", b"9999"];
 
 /// What can be wrong with a request about a digit string, all independent of
 /// each other. Field checks come last, since barcodes have none.
@@ -103,87 +94,6 @@ pub fn requests(random: &mut Random, barcodes: &[Vec<u8>]) -> Vec<Request> {
     cases.several_flaws();
     cases.several_changes(barcodes);
     cases.requests
-}
-
-/// Accepted barcodes with every general check digit there is.
-pub fn accepted_barcodes(random: &mut Random) -> Vec<Vec<u8>> {
-    let paper = DigitRules::of_the_paper();
-    let mut barcodes = vec![PAPER_BARCODE.to_vec()];
-    for check in b'1'..=b'9' {
-        let wanted = if check == b'1' {
-            BARCODES_WITH_CHECK_ONE
-        } else {
-            BARCODES_PER_CHECK
-        };
-        for _ in 0..wanted {
-            let fits = |barcode: &[u8]| paper.general_check(barcode) == check;
-            barcodes.push(checked_barcode_that(random, &paper, fits));
-        }
-    }
-    barcodes
-}
-
-fn checked_barcode_that(
-    random: &mut Random,
-    paper: &DigitRules,
-    fits: impl Fn(&[u8]) -> bool,
-) -> Vec<u8> {
-    loop {
-        let mut barcode = unchecked_barcode(random);
-        if fits(&barcode) {
-            set_general_check(&mut barcode, paper);
-            return barcode;
-        }
-    }
-}
-
-/// Right but for its general check, which is 0. Factor, cents and free digits
-/// are zero often enough to meet strings that are nearly empty.
-fn unchecked_barcode(random: &mut Random) -> Vec<u8> {
-    let mut barcode = digits(random, CURRENCY_PLACE - 1);
-    barcode.push(CURRENCY);
-    barcode.push(b'0');
-    let factor = if random.coin() {
-        random.pick(&FACTORS).to_vec()
-    } else {
-        digits(random, FACTOR_DIGITS)
-    };
-    barcode.extend(factor);
-    barcode.extend(digits_or_zeros(random, CENTS_DIGITS));
-    barcode.extend(digits_or_zeros(random, FREE_DIGITS - 1));
-    barcode.push(random.digit());
-    barcode
-}
-
-fn digits(random: &mut Random, count: usize) -> Vec<u8> {
-    (0..count).map(|_| random.digit()).collect()
-}
-
-fn digits_or_zeros(random: &mut Random, count: usize) -> Vec<u8> {
-    if random.below(ZEROS_ONCE_IN) == 0 {
-        vec![b'0'; count]
-    } else {
-        digits(random, count)
-    }
-}
-
-fn set_general_check(barcode: &mut [u8], paper: &DigitRules) {
-    barcode[BARCODE_CHECK_PLACE - 1] = paper.general_check(barcode);
-}
-
-fn few_of_each_check(barcodes: &[Vec<u8>]) -> Vec<&Vec<u8>> {
-    let mut few = vec![&barcodes[0]];
-    for check in b'1'..=b'9' {
-        let wanted = if check == b'1' {
-            CHANGED_WITH_CHECK_ONE
-        } else {
-            CHANGED_PER_CHECK
-        };
-        let others = barcodes.iter().skip(1);
-        let with_check = others.filter(|barcode| barcode[BARCODE_CHECK_PLACE - 1] == check);
-        few.extend(with_check.take(wanted));
-    }
-    few
 }
 
 struct DigitCases<'a> {

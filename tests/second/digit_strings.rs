@@ -2,7 +2,8 @@
 //! conversions, and the answer to each string and room.
 
 use crate::faults::{move_before, Fault};
-use crate::probe::{Answer, Op, Verdict, UNTOUCHED};
+use crate::probe::{Op, UNTOUCHED};
+use crate::replies::{Answer, Verdict};
 
 pub const BARCODE_DIGITS: usize = 44;
 pub const LINE_DIGITS: usize = 47;

@@ -42,8 +42,45 @@ pub enum Fault {
     UnusedTextTested,
     RefusedRecordWritten,
     ClearedBehindTheRecord,
+    LengthBeforeEnd,
+    LineEndBeforeBytes,
+    BatchLimitBehindBank,
+    BatchNumberBeforeBank,
+    SegmentBeforeDetailNumber,
+    CountsBehindFields,
+    SumBeforeFields,
+    TotalBeforeSum,
+    EquationBeforeFields,
+    DueDateBeforeCheck,
+    FileWithoutBatchTaken,
+    BatchWithoutPaymentTaken,
+    ZTakenInARemittance,
+    SecondZTaken,
+    J52KnownByItsBytes,
+    DirectionFixedAsRemittance,
+    NonDigitBankIsEight,
+    BatchesUnlimited,
+    TrailerCountsPayments,
+    FileEndsNotCounted,
+    SumsIn32Bits,
+    SumsCutTo18Digits,
+    SumTestedInFirstBatchOnly,
+    TotalUnlimited,
+    TotalAtTheLimitTaken,
+    MovementNineNotSummed,
+    ZCountedAsPayment,
+    DiscountAdded,
+    SmallFactorsNotCounted,
+    CentsAgainstTenDigits,
+    NotLookedAtBehindTheEnd,
+    LinesCutAtLineFeeds,
+    EmptyCallTaken,
+    RefusedLineMovesTheState,
+    LinesCountedByCalls,
+    RefusalKeptToTheEnd,
 }
 
+/// Mistakes about digit strings and records alone.
 const NAMED_FAULTS: [(&str, Fault); 38] = [
     (
         "remainder-zero-or-one-gives-zero",
@@ -121,13 +158,82 @@ const NAMED_FAULTS: [(&str, Fault); 38] = [
     ("cleared-behind-the-record", Fault::ClearedBehindTheRecord),
 ];
 
+/// Mistakes about the lines of files.
+const NAMED_FILE_FAULTS: [(&str, Fault); 36] = [
+    ("length-before-end", Fault::LengthBeforeEnd),
+    ("line-end-before-bytes", Fault::LineEndBeforeBytes),
+    ("batch-limit-behind-bank", Fault::BatchLimitBehindBank),
+    ("batch-number-before-bank", Fault::BatchNumberBeforeBank),
+    (
+        "segment-before-detail-number",
+        Fault::SegmentBeforeDetailNumber,
+    ),
+    ("counts-behind-fields", Fault::CountsBehindFields),
+    ("sum-before-fields", Fault::SumBeforeFields),
+    ("total-before-sum", Fault::TotalBeforeSum),
+    ("equation-before-fields", Fault::EquationBeforeFields),
+    ("due-date-before-check", Fault::DueDateBeforeCheck),
+    ("file-without-batch-taken", Fault::FileWithoutBatchTaken),
+    (
+        "batch-without-payment-taken",
+        Fault::BatchWithoutPaymentTaken,
+    ),
+    ("z-taken-in-a-remittance", Fault::ZTakenInARemittance),
+    ("second-z-taken", Fault::SecondZTaken),
+    ("j52-known-by-its-bytes", Fault::J52KnownByItsBytes),
+    (
+        "direction-fixed-as-remittance",
+        Fault::DirectionFixedAsRemittance,
+    ),
+    ("non-digit-bank-is-eight", Fault::NonDigitBankIsEight),
+    ("batches-unlimited", Fault::BatchesUnlimited),
+    ("trailer-counts-payments", Fault::TrailerCountsPayments),
+    ("file-ends-not-counted", Fault::FileEndsNotCounted),
+    ("sums-in-32-bits", Fault::SumsIn32Bits),
+    ("sums-cut-to-18-digits", Fault::SumsCutTo18Digits),
+    (
+        "sum-tested-in-first-batch-only",
+        Fault::SumTestedInFirstBatchOnly,
+    ),
+    ("total-unlimited", Fault::TotalUnlimited),
+    ("total-at-the-limit-taken", Fault::TotalAtTheLimitTaken),
+    ("movement-nine-not-summed", Fault::MovementNineNotSummed),
+    ("z-counted-as-payment", Fault::ZCountedAsPayment),
+    ("discount-added", Fault::DiscountAdded),
+    ("small-factors-not-counted", Fault::SmallFactorsNotCounted),
+    ("cents-against-ten-digits", Fault::CentsAgainstTenDigits),
+    (
+        "not-looked-at-behind-the-end",
+        Fault::NotLookedAtBehindTheEnd,
+    ),
+    ("lines-cut-at-line-feeds", Fault::LinesCutAtLineFeeds),
+    ("empty-call-taken", Fault::EmptyCallTaken),
+    (
+        "refused-line-moves-the-state",
+        Fault::RefusedLineMovesTheState,
+    ),
+    ("lines-counted-by-calls", Fault::LinesCountedByCalls),
+    ("refusal-kept-to-the-end", Fault::RefusalKeptToTheEnd),
+];
+
+fn named_faults() -> impl Iterator<Item = &'static (&'static str, Fault)> {
+    NAMED_FAULTS.iter().chain(&NAMED_FILE_FAULTS)
+}
+
 pub fn names() -> impl Iterator<Item = &'static str> {
-    NAMED_FAULTS.iter().map(|(name, _)| *name)
+    named_faults().map(|(name, _)| *name)
 }
 
 pub fn by_name(wanted: &str) -> Option<Fault> {
-    let found = NAMED_FAULTS.iter().find(|(name, _)| *name == wanted);
+    let found = named_faults().find(|(name, _)| *name == wanted);
     found.map(|(_, fault)| *fault)
+}
+
+impl Fault {
+    /// Whether only requests about files can show the fault.
+    pub fn is_about_files(self) -> bool {
+        NAMED_FILE_FAULTS.iter().any(|(_, fault)| *fault == self)
+    }
 }
 
 /// How a fault of order is sown: one row is tested before another. Nothing

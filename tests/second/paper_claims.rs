@@ -1,12 +1,13 @@
 //! Claims of document 01 about digit strings, checked over the second
 //! program's own rules and cases: where one fails, the second program is wrong.
 
-use crate::digit_cases::{DOCUMENT_004_LINE, PAPER_BARCODE, PAPER_LINE};
+use crate::digit_cases::{DOCUMENT_004_LINE, PAPER_LINE};
 use crate::digit_strings::{
     Conversion, DigitRules, BARCODE_CHECK_PLACE, BARCODE_DIGITS, CURRENCY_PLACE, LINE_CHECK_PLACE,
     LINE_DIGITS,
 };
-use crate::probe::{Answer, Verdict};
+use crate::good_barcodes::PAPER_BARCODE;
+use crate::replies::{Answer, Verdict};
 
 /// Field and its check.
 const FIELD_CHECKS: [(&[u8], u8); 3] = [
@@ -97,9 +98,8 @@ fn round_trip(paper: &DigitRules, barcode: &[u8]) -> Result<Vec<u8>, String> {
 }
 
 fn accepted(answer: Answer) -> Option<Vec<u8>> {
-    answer
-        .memory
-        .filter(|_| answer.verdict == Verdict::Accepted)
+    let accepts = answer.accepts();
+    answer.memory.filter(|_| accepts)
 }
 
 /// Changes each digit of an accepted string to each other one. Demands the

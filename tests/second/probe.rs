@@ -1,14 +1,7 @@
-//! The protocol of the program under test: how a request is written, what a
-//! reply looks like, and the conversation with the running program.
-
-use std::fmt;
-use std::io::{self, BufRead, BufReader, Read, Write};
-use std::ops::Range;
-use std::process::{Child, ChildStdout, Command, Stdio};
-use std::thread::{self, JoinHandle};
+//! The protocol of the program under test: how a request is written and what
+//! it asks for.
 
 use crate::record_kinds::Subject;
-use crate::record_table::RECORD_BYTES;
 
 pub const HEADER_BYTES: usize = 16;
 /// Neither the lent memory nor the payload may be larger.
@@ -27,12 +20,8 @@ const LINE_FEED_AT: usize = 15;
 
 const DECIMAL: u32 = 10;
 
-/// The number of the reply to a malformed request; no row of document 01.
-pub const MALFORMED: u32 = 0;
-/// No reply line comes near this; it keeps a runaway reply from filling memory.
-const LONGEST_REPLY_LINE: u64 = 400;
-/// How the line of an accepting reply begins.
-const ACCEPTED: &str = "OK";
+/// A single-line call begins with its length in so many digits.
+pub const CALL_LENGTH_DIGITS: usize = 6;
 
 #[derive(Clone, Copy, PartialEq, Eq)]
 pub enum Op {
@@ -40,13 +29,17 @@ pub enum Op {
     LineToBarcode,
     ReadRecord,
     WriteRecord,
+    CheckFile,
+    CheckLines,
 }
 
-pub const OPS: [Op; 4] = [
+pub const OPS: [Op; 6] = [
     Op::BarcodeToLine,
     Op::LineToBarcode,
     Op::ReadRecord,
     Op::WriteRecord,
+    Op::CheckFile,
+    Op::CheckLines,
 ];
 
 impl Op {
@@ -56,6 +49,8 @@ impl Op {
             Op::LineToBarcode => b'D',
             Op::ReadRecord => b'C',
             Op::WriteRecord => b'W',
+            Op::CheckFile => b'F',
+            Op::CheckLines => b'L',
         }
     }
 
@@ -79,23 +74,8 @@ pub enum Call {
     LineToBarcode { room: usize },
     ReadRecord { subject: Subject },
     WriteRecord { subject: Subject, room: usize },
-}
-
-impl Call {
-    /// How many bytes and a line feed follow a reply that has this line. The
-    /// malformed reply has none: what follows it is the next reply.
-    fn bytes_behind(&self, line: &[u8]) -> Option<usize> {
-        match self {
-            Call::BarcodeToLine { room }
-            | Call::LineToBarcode { room }
-            | Call::WriteRecord { room, .. } => {
-                (line != Answer::malformed().as_reply().line).then_some(*room)
-            }
-            Call::ReadRecord { .. } => line
-                .starts_with(ACCEPTED.as_bytes())
-                .then_some(RECORD_BYTES),
-        }
-    }
+    CheckFile,
+    CheckLines,
 }
 
 pub fn header(op: u8, direction: u8, room: usize, length: usize) -> Header {
@@ -118,6 +98,21 @@ fn six_digits(bytes: &[u8]) -> Option<usize> {
         Some(number * DECIMAL + digit)
     });
     number.map(|number| number as usize)
+}
+
+fn split(bytes: &[u8], at: usize) -> Option<(&[u8], &[u8])> {
+    (at <= bytes.len()).then(|| bytes.split_at(at))
+}
+
+/// How single-line calls travel in a payload.
+pub fn payload_of_calls<'a>(calls: impl IntoIterator<Item = &'a [u8]>) -> Vec<u8> {
+    let mut payload = Vec::new();
+    for call in calls {
+        let length = format!("{:0width$}", call.len(), width = CALL_LENGTH_DIGITS);
+        payload.extend_from_slice(length.as_bytes());
+        payload.extend_from_slice(call);
+    }
+    payload
 }
 
 impl Request {
@@ -152,7 +147,23 @@ impl Request {
             Op::WriteRecord => self
                 .subject()
                 .map(|subject| Call::WriteRecord { subject, room }),
+            Op::CheckFile => self.names_no_record().then_some(Call::CheckFile),
+            Op::CheckLines => self.names_no_record().then_some(Call::CheckLines),
         }
+    }
+
+    /// The single-line calls the payload is made of; nothing for a payload that
+    /// is no such sequence.
+    pub fn line_calls(&self) -> Option<Vec<&[u8]>> {
+        let mut calls = Vec::new();
+        let mut rest = self.payload.as_slice();
+        while !rest.is_empty() {
+            let length = six_digits(rest.get(..CALL_LENGTH_DIGITS)?)?;
+            let (call, behind) = split(&rest[CALL_LENGTH_DIGITS..], length)?;
+            calls.push(call);
+            rest = behind;
+        }
+        Some(calls)
     }
 
     fn names_no_record(&self) -> bool {
@@ -170,171 +181,5 @@ impl Request {
     pub fn append_to(&self, stream: &mut Vec<u8>) {
         stream.extend_from_slice(&self.header);
         stream.extend_from_slice(&self.payload);
-    }
-}
-
-#[derive(Clone, Copy, PartialEq, Eq)]
-pub enum Verdict {
-    Accepted,
-    Refused {
-        number: u32,
-        line: u32,
-        place: usize,
-    },
-}
-
-impl fmt::Display for Verdict {
-    fn fmt(&self, out: &mut fmt::Formatter) -> fmt::Result {
-        match self {
-            Verdict::Accepted => write!(out, "{ACCEPTED}"),
-            Verdict::Refused {
-                number,
-                line,
-                place,
-            } => write!(out, "NO {number} {line} {place}"),
-        }
-    }
-}
-
-/// What document 01 demands of a call.
-pub struct Answer {
-    pub verdict: Verdict,
-    /// For each field of a record that was read its number, or nothing where
-    /// the field is read as bytes.
-    pub numbers: Vec<Option<u64>>,
-    /// The lent memory after the call, or the text of the record that was read.
-    pub memory: Option<Vec<u8>>,
-    /// Parts of the memory that may hold anything.
-    pub unbound: Vec<Range<usize>>,
-}
-
-impl Answer {
-    pub fn malformed() -> Answer {
-        let verdict = Verdict::Refused {
-            number: MALFORMED,
-            line: 0,
-            place: 0,
-        };
-        Answer::without_memory(verdict)
-    }
-
-    pub fn without_memory(verdict: Verdict) -> Answer {
-        Answer {
-            verdict,
-            numbers: Vec::new(),
-            memory: None,
-            unbound: Vec::new(),
-        }
-    }
-
-    pub fn with_memory(verdict: Verdict, memory: Vec<u8>) -> Answer {
-        Answer {
-            memory: Some(memory),
-            ..Answer::without_memory(verdict)
-        }
-    }
-
-    /// The reply demanded, with what came at the places that may hold anything.
-    pub fn reply_beside(&self, came: &Reply) -> Reply {
-        let mut reply = self.as_reply();
-        if reply.memory.len() == came.memory.len() {
-            for part in &self.unbound {
-                reply.memory[part.clone()].copy_from_slice(&came.memory[part.clone()]);
-            }
-        }
-        reply
-    }
-
-    pub fn as_reply(&self) -> Reply {
-        let mut line = self.verdict.to_string();
-        for number in &self.numbers {
-            line += " ";
-            line += &number.map_or("-".to_string(), |number| number.to_string());
-        }
-        line += "\n";
-        let line = line.into_bytes();
-        let mut memory = Vec::new();
-        if let Some(lent) = &self.memory {
-            memory.extend_from_slice(lent);
-            memory.push(b'\n');
-        }
-        Reply { line, memory }
-    }
-}
-
-/// A reply as its bytes travel, line feeds included, so that a missing one is
-/// a difference like any other.
-#[derive(PartialEq, Eq)]
-pub struct Reply {
-    pub line: Vec<u8>,
-    pub memory: Vec<u8>,
-}
-
-pub struct Conversation {
-    child: Child,
-    writer: Option<JoinHandle<()>>,
-    replies: BufReader<ChildStdout>,
-}
-
-impl Conversation {
-    pub fn start(command: &[String], stream: Vec<u8>) -> io::Result<Conversation> {
-        let mut child = Command::new(&command[0])
-            .args(&command[1..])
-            .stdin(Stdio::piped())
-            .stdout(Stdio::piped())
-            .spawn()?;
-        let missing = || io::Error::from(io::ErrorKind::BrokenPipe);
-        let mut requests = child.stdin.take().ok_or_else(missing)?;
-        let replies = child.stdout.take().ok_or_else(missing)?;
-        // A thread of its own: with one thread both sides could wait on full pipes.
-        let writer = thread::spawn(move || {
-            // A program that stops reading shows in its replies, not here.
-            let _ = requests.write_all(&stream);
-        });
-        Ok(Conversation {
-            child,
-            writer: Some(writer),
-            replies: BufReader::new(replies),
-        })
-    }
-
-    /// Reads the reply to a call, or to a malformed request.
-    pub fn next_reply(&mut self, call: Option<Call>) -> io::Result<Reply> {
-        let mut line = Vec::new();
-        self.replies
-            .by_ref()
-            .take(LONGEST_REPLY_LINE)
-            .read_until(b'\n', &mut line)?;
-        let mut memory = Vec::new();
-        if let Some(bytes) = call.and_then(|call| call.bytes_behind(&line)) {
-            let with_line_feed = bytes as u64 + 1;
-            self.replies
-                .by_ref()
-                .take(with_line_feed)
-                .read_to_end(&mut memory)?;
-        }
-        Ok(Reply { line, memory })
-    }
-
-    /// What the program still writes before it ends; nothing, if it is right.
-    pub fn remainder(&mut self) -> io::Result<Vec<u8>> {
-        let mut rest = Vec::new();
-        self.replies
-            .by_ref()
-            .take(LONGEST_REPLY_LINE)
-            .read_to_end(&mut rest)?;
-        Ok(rest)
-    }
-}
-
-impl Drop for Conversation {
-    /// After a difference the program may still be waiting for its replies to
-    /// be read; ending it also frees the writing thread.
-    fn drop(&mut self) {
-        let _ = self.child.kill();
-        let _ = self.child.wait();
-        if let Some(writer) = self.writer.take() {
-            let _ = writer.join();
-        }
     }
 }

@@ -86,18 +86,8 @@ impl RecordCases<'_> {
     fn changed_places(&mut self, subject: Subject) {
         for at in 0..RECORD_BYTES {
             let mut record = self.good(subject);
-            record[at] = self.likely_byte();
+            record[at] = likely_byte(self.random);
             self.ask(subject, record);
-        }
-    }
-
-    /// Any byte, but those that fields tell apart more often than the rest.
-    fn likely_byte(&mut self) -> u8 {
-        match self.random.below(4) {
-            0 => self.random.byte(),
-            1 => self.random.digit(),
-            2 => self.random.between(32, 126) as u8,
-            _ => self.random.pick(BYTES_TO_TRY),
         }
     }
 
@@ -260,13 +250,23 @@ impl RecordCases<'_> {
     }
 }
 
+/// Any byte, but those that fields tell apart more often than the rest.
+pub fn likely_byte(random: &mut Random) -> u8 {
+    match random.below(4) {
+        0 => random.byte(),
+        1 => random.digit(),
+        2 => random.between(32, 126) as u8,
+        _ => random.pick(BYTES_TO_TRY),
+    }
+}
+
 pub fn fields_to_spoil(subject: Subject) -> Vec<Field> {
     let mut fields = table::fields(subject.kind);
     fields.retain(|field| record_flaws::can_be_spoiled(*field, subject));
     fields
 }
 
-fn known_contents_of(field: Field) -> Vec<Vec<u8>> {
+pub fn known_contents_of(field: Field) -> Vec<Vec<u8>> {
     match field.entry {
         Entry::Date => as_bytes(DATES.split(' ').chain(DATES_WITH_NON_DIGITS)),
         Entry::Time => as_bytes(TIMES.split(' ').chain(TIMES_WITH_NON_DIGITS)),

@@ -2,7 +2,6 @@
 //! program's own table and rules: where one fails, the second program is wrong.
 
 use crate::good_records::good_record;
-use crate::probe::Verdict;
 use crate::random::Random;
 use crate::record_kinds::{all_subjects, Direction, RecordKind, Subject};
 use crate::record_rules::RecordRules;
@@ -64,8 +63,7 @@ fn tiles(fields: &[Field]) -> bool {
 /// A good record is read, and writing what was read gives its bytes again.
 fn round_trip(paper: &RecordRules, subject: Subject, record: &[u8]) -> Result<(), String> {
     let read = paper.read(subject, record);
-    let accepted = read.verdict == Verdict::Accepted;
-    demand(accepted, "acceptance of a good record", subject.kind)?;
+    demand(read.accepts(), "acceptance of a good record", subject.kind)?;
     let values = Values::of_record(subject.kind, record);
     let written = paper.write(subject, &values.to_payload(), RECORD_BYTES);
     let same = written.memory.as_deref() == Some(record);
@@ -89,7 +87,7 @@ fn changes_at_fixed_places(
             let mut changed = record.to_vec();
             let others = (b' '..=b'~').filter(|byte| *byte != record[place - 1]);
             changed[place - 1] = random.pick(&others.collect::<Vec<u8>>());
-            let right = paper.read(subject, &changed).verdict != Verdict::Accepted;
+            let right = !paper.read(subject, &changed).accepts();
             demand(right, "refusal of a change of fixed content", subject.kind)?;
             refused += 1;
         }

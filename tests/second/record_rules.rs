@@ -3,12 +3,12 @@
 use crate::calendar::Calendar;
 use crate::digit_strings::{CURRENCY, CURRENCY_PLACE};
 use crate::faults::{move_before, Fault};
-use crate::probe::Verdict;
 use crate::record_kinds::{Direction, RecordKind, Subject};
 use crate::record_table::{
     self as table, Entry, Field, BOLETO_FORMS, CREDIT_FORMS, CREDIT_SERVICE, RECORD_BYTES,
     SEGMENT_PLACE, TYPE_PLACE,
 };
+use crate::replies::Verdict;
 
 const LENGTH: u32 = 1;
 const WRONG_BYTE: u32 = 4;
@@ -27,7 +27,7 @@ const LAST_PRINTABLE: u8 = 126;
 const DIRECTION_PLACE: usize = 143;
 
 /// Number and place of a refusal.
-type Refusal = (u32, usize);
+pub type Refusal = (u32, usize);
 
 /// A record to be tested: what stands at its places, and the fields for which
 /// the caller's number is too wide, so that its digits are not all there.
@@ -138,7 +138,7 @@ impl RecordRules {
             && subject.direction == Direction::Remittance
     }
 
-    fn field_refusal(&self, field: Field, subject: Subject, draft: &Draft) -> Option<Refusal> {
+    pub fn field_refusal(&self, field: Field, subject: Subject, draft: &Draft) -> Option<Refusal> {
         if field.entry == Entry::Service {
             return self.pair_refusal(field, subject, draft);
         }
@@ -263,7 +263,7 @@ impl RecordRules {
     }
 }
 
-fn all_digits(content: &[u8]) -> bool {
+pub fn all_digits(content: &[u8]) -> bool {
     content.iter().all(u8::is_ascii_digit)
 }
 

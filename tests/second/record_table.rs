@@ -152,8 +152,9 @@ const FILE_HEADER: [Field; 10] = [
     field(172, 240, Entry::Free),
 ];
 
+pub const FIRST_OF_BATCH_HEADER: Field = field(9, 9, Entry::Exact(b"C"));
 const BATCH_HEADER: [Field; 12] = [
-    field(9, 9, Entry::Exact(b"C")),
+    FIRST_OF_BATCH_HEADER,
     field(10, 11, Entry::Service),
     field(12, 13, Entry::Form),
     field(14, 16, Entry::Number),
@@ -234,13 +235,14 @@ const SEGMENT_J52: [Field; 13] = [
 
 const SEGMENT_Z: [Field; 1] = [field(15, 240, Entry::Free)];
 
+pub const LAST_BLANKS_OF_BATCH_TRAILER: Field = field(66, 230, Entry::Blank);
 const BATCH_TRAILER: [Field; 7] = [
     field(9, 17, Entry::Blank),
     field(18, 23, Entry::Number),
     field(24, 41, Entry::Number),
     field(42, 59, Entry::Number),
     field(60, 65, Entry::Number),
-    field(66, 230, Entry::Blank),
+    LAST_BLANKS_OF_BATCH_TRAILER,
     field(231, 240, Entry::BlankInRemittance),
 ];
 

@@ -2,10 +2,11 @@
 //! how the values of a record travel in a request.
 
 use crate::faults::Fault;
-use crate::probe::{Answer, Verdict, UNTOUCHED};
+use crate::probe::UNTOUCHED;
 use crate::record_kinds::{RecordKind, Subject};
 use crate::record_rules::{Draft, RecordRules};
 use crate::record_table::{self as table, Entry, Field, RECORD_BYTES};
+use crate::replies::{Answer, AnswerLine, Verdict};
 
 pub const DIGITS_OF_A_VALUE: usize = 20;
 
@@ -87,9 +88,12 @@ impl RecordRules {
         }
         let fields = table::fields(subject.kind);
         let numbers = fields.iter().filter(|field| field.is_number());
-        Answer {
+        let line = AnswerLine {
             verdict,
             numbers: fields.iter().map(|f| self.number_in(*f, bytes)).collect(),
+        };
+        Answer {
+            lines: vec![line],
             unbound: numbers.map(|field| field.range()).collect(),
             memory: Some(draft.bytes),
         }

@@ -4,55 +4,78 @@
 use std::collections::BTreeMap;
 use std::fmt;
 
-use crate::probe::{Op, Request, Verdict, MALFORMED};
+use crate::probe::{Op, Request};
+use crate::replies::{Answer, Verdict, MALFORMED};
 
 /// One column for each op, and one for all that name no op.
-const COLUMNS: [&str; 5] = ["B", "D", "C", "W", "other"];
-const NO_OP: &str = COLUMNS[4];
+const COLUMNS: [&str; 7] = ["B", "D", "C", "W", "F", "L", "other"];
+const NO_OP: &str = COLUMNS[6];
+const REQUESTS: &str = "requests";
 const ACCEPTED: &str = "OK";
 const MALFORMED_REQUEST: &str = "malformed";
 const FIELD_CHECK: u32 = 42;
 
-/// Each answer with the columns in which it can occur.
-const ANSWERS: [(&str, &[&str]); 19] = [
-    (ACCEPTED, &["B", "D", "C", "W"]),
+/// Each answer with the columns in which it can occur. Reading a file can give
+/// every number from 1 to 23, in a whole file and in single-line calls.
+const ANSWERS: [(&str, &[&str]); 33] = [
+    (ACCEPTED, &["B", "D", "C", "W", "F", "L"]),
+    ("1", &["C", "F", "L"]),
+    ("2", &["F", "L"]),
+    ("3", &["F", "L"]),
+    ("4", &["C", "W", "F", "L"]),
+    ("5", &["F", "L"]),
+    ("6", &["C", "F", "L"]),
+    ("7", &["F", "L"]),
+    ("8", &["C", "W", "F", "L"]),
+    ("9", &["F", "L"]),
+    ("10", &["F", "L"]),
+    ("11", &["C", "F", "L"]),
+    ("12", &["C", "W", "F", "L"]),
+    ("13", &["C", "W", "F", "L"]),
+    ("14", &["C", "W", "F", "L"]),
+    ("15", &["C", "W", "F", "L"]),
+    ("16", &["F", "L"]),
+    ("17", &["F", "L"]),
+    ("18", &["F", "L"]),
+    ("19", &["F", "L"]),
+    ("20", &["F", "L"]),
+    ("21", &["F", "L"]),
+    ("22", &["F", "L"]),
+    ("23", &["F", "L"]),
     ("40", &["B", "D"]),
     ("41", &["B", "D"]),
-    ("43", &["B", "D"]),
     ("42 at 10", &["D"]),
     ("42 at 21", &["D"]),
     ("42 at 32", &["D"]),
+    ("43", &["B", "D"]),
     ("44", &["B", "D"]),
-    ("1", &["C"]),
-    ("4", &["C", "W"]),
-    ("6", &["C"]),
-    ("11", &["C"]),
-    ("8", &["C", "W"]),
-    ("12", &["C", "W"]),
-    ("13", &["C", "W"]),
-    ("14", &["C", "W"]),
-    ("15", &["C", "W"]),
     ("50", &["B", "D", "W"]),
     (MALFORMED_REQUEST, &COLUMNS),
 ];
 
 #[derive(Default)]
 pub struct Tally {
-    seen: BTreeMap<(String, String), usize>,
+    /// By answer and column. A request of single-line calls has several answers.
+    seen: BTreeMap<(String, &'static str), usize>,
+    requests: BTreeMap<&'static str, usize>,
 }
 
 impl Tally {
-    pub fn count(&mut self, request: &Request, verdict: Verdict) {
-        let key = (answer_name(verdict), column(request));
-        *self.seen.entry(key).or_default() += 1;
+    pub fn count(&mut self, request: &Request, answer: &Answer) {
+        let column = column(request);
+        *self.requests.entry(column).or_default() += 1;
+        for line in &answer.lines {
+            let key = (answer_name(line.verdict), column);
+            *self.seen.entry(key).or_default() += 1;
+        }
     }
 
     pub fn requests(&self) -> usize {
-        self.seen.values().sum()
+        self.requests.values().sum()
     }
 
-    fn times(&self, answer: &str, column: &str) -> usize {
-        let key = (answer.to_string(), column.to_string());
+    fn times(&self, answer: &str, column: &'static str) -> usize {
+        let key = (answer.to_string(), column);
         self.seen.get(&key).copied().unwrap_or(0)
     }
 
@@ -69,7 +92,7 @@ impl Tally {
                 }
             }
         }
-        if in_table != self.requests() {
+        if in_table != self.seen.values().sum() {
             gaps.push("some answers have no place in the table".to_string());
         }
         gaps
@@ -91,11 +114,11 @@ fn answer_name(verdict: Verdict) -> String {
     }
 }
 
-fn column(request: &Request) -> String {
-    match Op::from_code(request.op_code()) {
-        Some(op) => char::from(op.code()).to_string(),
-        None => NO_OP.to_string(),
-    }
+fn column(request: &Request) -> &'static str {
+    let op = Op::from_code(request.op_code());
+    let mut columns = COLUMNS.into_iter();
+    let named = op.and_then(|op| columns.find(|column| column.as_bytes() == [op.code()]));
+    named.unwrap_or(NO_OP)
 }
 
 impl fmt::Display for Tally {
@@ -115,6 +138,11 @@ impl fmt::Display for Tally {
                 };
                 write!(out, "{times:>8}")?;
             }
+        }
+        write!(out, "\n{REQUESTS:<10}")?;
+        for column in COLUMNS {
+            let requests = self.requests.get(column).copied().unwrap_or(0);
+            write!(out, "{requests:>8}")?;
         }
         Ok(())
     }

@@ -21,8 +21,12 @@ headRules n bs =
     ∷ rule 43 currencyPlace (currencyFits bs)
     ∷ []
 
+-- the general check of a barcode
+abbrev pub generalFits : List ℕ → Bool
+generalFits bar = sealed Eleven barcodeCheck bar
+
 unfoldable pub barcodeRules : List ℕ → List Rule
-barcodeRules bar = headRules barcodeDigits bar ++ rule 44 barcodeCheck (sealed Eleven barcodeCheck bar) ∷ []
+barcodeRules bar = headRules barcodeDigits bar ++ rule 44 barcodeCheck (generalFits bar) ∷ []
 
 -- a field of the line, from place a to its check digit at place b
 abbrev pub fieldRule : ℕ → ℕ → List ℕ → Rule
@@ -34,7 +38,7 @@ checkRules line =
     fieldRule 1 10 line
     ∷ fieldRule 11 21 line
     ∷ fieldRule 22 32 line
-    ∷ rule 44 lineCheck (sealed Eleven barcodeCheck (barcodeOf line))
+    ∷ rule 44 lineCheck (generalFits (barcodeOf line))
     ∷ []
 
 unfoldable pub lineRules : List ℕ → List Rule

@@ -23,6 +23,13 @@ barcodeCheck = 5
 abbrev pub lineCheck : ℕ
 lineCheck = 33
 
+-- the due factor and the cents of a barcode
+abbrev pub factorDigits : List ℕ → List ℕ
+factorDigits bar = places 6 9 bar
+
+abbrev pub centsDigits : List ℕ → List ℕ
+centsDigits bar = places 10 19 bar
+
 -- a field of the line: its digits with their check digit behind them
 abbrev pub checked : List ℕ → List ℕ
 checked bs = bs ++ digitByte (checkDigit Ten bs) ∷ []

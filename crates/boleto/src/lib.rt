@@ -12,9 +12,8 @@ ghost use Prim.Native.Nat.{_≤_};
 ghost use lib.ListN.{length};
 ghost use Rattle.answer.specs.Rules.{firstBroken};
 ghost use Rattle.answer.specs.Output.{Writes};
-ghost use Rattle.digits.specs.Checks.{sealed};
-ghost use Rattle.boleto.specs.Strings.{barcodeDigits, lineDigits, barcodeCheck, lineOf, barcodeOf};
-ghost use Rattle.boleto.specs.Rules.{currencyFits, headRules, barcodeRules, fieldRule, checkRules, lineRules};
+ghost use Rattle.boleto.specs.Strings.{barcodeDigits, lineDigits, lineOf, barcodeOf};
+ghost use Rattle.boleto.specs.Rules.{currencyFits, generalFits, headRules, barcodeRules, fieldRule, checkRules, lineRules};
 
 const BARCODE_DIGITS: usize = 44;
 
@@ -61,12 +60,18 @@ fn check_head(s: &[u8], n: usize) -> Answer
     Answer::test(CURRENCY, CURRENCY_PLACE, currency_fits(s))
 }
 
+// The general check of a barcode.
+pub fn is_sealed(bar: &[u8]) -> bool
+    ensures { λ r. ⌜ r ≡ generalFits (now (bar .entry)) ⌝ }
+{
+    digits::is_sealed(Modulus::Eleven, bar, BARCODE_CHECK - 1)
+}
+
 pub fn check_barcode(bar: &[u8]) -> Answer
     ensures { λ r. ⌜ r ≡ firstBroken (barcodeRules (now (bar .entry))) ⌝ }
 {
     let head = check_head(bar, BARCODE_DIGITS);
-    let sealed = digits::is_sealed(Modulus::Eleven, bar, BARCODE_CHECK - 1);
-    head.and_then(Answer::test(GENERAL_CHECK, BARCODE_CHECK, sealed))
+    head.and_then(Answer::test(GENERAL_CHECK, BARCODE_CHECK, is_sealed(bar)))
 }
 
 // The check digit at the end of a line's field, which has the places from `first` to `last`.
@@ -81,11 +86,11 @@ fn check_field(line: &[u8], first: usize, last: usize) -> Answer
 // The general check of a line is that of its barcode.
 fn general_fits(line: &[u8]) -> bool
     requires { ⌜ length (now line) ≡ lineDigits ⌝ }
-    ensures { λ r. ⌜ r ≡ sealed Modulus.Eleven barcodeCheck (barcodeOf (now (line .entry))) ⌝ }
+    ensures { λ r. ⌜ r ≡ generalFits (barcodeOf (now (line .entry))) ⌝ }
 {
     let mut bar = [0u8; BARCODE_DIGITS];
     write_barcode(line, &mut bar);
-    digits::is_sealed(Modulus::Eleven, &bar, BARCODE_CHECK - 1)
+    is_sealed(&bar)
 }
 
 // The four check digits of a line.

@@ -20,6 +20,10 @@ mostDigits = 19
 unfoldable pub numberOf : List ℕ → Number
 numberOf bs = cond (allDigits bs && leb (length bs) mostDigits) (Is (number bs)) Not
 
+-- the same, a byte that is no digit counting 0, and too many digits 0
+abbrev pub value : List ℕ → ℕ
+value bs = cond (leb (length bs) mostDigits) (number bs) 0
+
 -- the last w digits of n
 unfoldable pub lastDigits : ℕ → ℕ → List ℕ
 lastDigits zero n = []

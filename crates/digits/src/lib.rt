@@ -7,10 +7,11 @@ pub use sealing::check_digit;
 pub use sealing::is_sealed;
 pub use spelling::Number;
 pub use spelling::number_of;
+pub use spelling::value;
 pub use spelling::write_number;
 ghost use mathlib.Core.Path.{_≡_};
 ghost use Prim.Native.Nat.{_≤_};
-ghost use Rattle.digits.specs.Digits.{digit?, digitOf, leading};
+ghost use Rattle.digits.specs.Digits.{digit?, digitOf, leading, allDigits};
 
 fn is_digit(b: u8) -> bool
     ensures { λ r. ⌜ r ≡ digit? b ⌝ }
@@ -22,7 +23,11 @@ fn is_digit(b: u8) -> bool
 fn digit_of(b: u8) -> u64
     ensures { λ r. ⌜ (r ≡ digitOf b) × (r ≤ 9) ⌝ }
 {
-    if is_digit(b) { (b - b'0') as u64 } else { 0 }
+    if is_digit(b) {
+        b as u64 - b'0' as u64
+    } else {
+        0
+    }
 }
 
 // How many digits s begins with.
@@ -37,4 +42,18 @@ pub fn leading(s: &[u8]) -> usize
         i += 1;
     }
     i
+}
+
+// Yes or no, without an early exit: the compiler looks at many bytes at once.
+pub fn all_digits(s: &[u8]) -> bool
+    ensures { λ r. ⌜ r ≡ allDigits (now (s .entry)) ⌝ }
+{
+    let mut all = true;
+    let mut i = 0;
+    while i < s.len() {
+        let b = s[i];
+        all = all & (b'0' <= b) & (b <= b'9');
+        i += 1;
+    }
+    all
 }

@@ -3,8 +3,9 @@ use super::digit_of;
 ghost use mathlib.Core.Path.{_≡_};
 ghost use mathlib.Core.List.{_++_};
 ghost use Prim.Native.Nat.{_+_, _%_, _^_, _<_, _≤_};
+ghost use lib.ListN.{length};
 ghost use Rattle.digits.specs.Digits.{digitByte, weighed};
-ghost use Rattle.digits.specs.Steps.{behind, Reduced};
+ghost use Rattle.digits.specs.Steps.{behind, few};
 ghost use Rattle.digits.specs.Checks.{base, counts, lift, checkDigit, sealed};
 
 // Ten: weights 2, 1, 2 .. and the digits of each product added. Eleven: weights 2 to 9, repeating.
@@ -13,8 +14,8 @@ pub enum Modulus {
     Eleven,
 }
 
-// A sum from here on is reduced, so that a string of any length can be weighed.
-const LARGE: u64 = 1000000;
+// So many digits at most are a short string: what they count, at most 81 each, fits 16 bits.
+const FEW: usize = 800;
 
 fn base_of(m: Modulus) -> u64
     ensures { λ r. ⌜ r ≡ base m ⌝ }
@@ -39,15 +40,25 @@ fn count(m: Modulus, k: usize, d: u64) -> u64
     }
 }
 
-// A number with the same remainder that leaves room for what a digit counts.
-fn reduced(m: Modulus, sum: u64) -> u64
-    ensures { λ r. ⌜ Reduced (base m) sum r ⌝ }
+// The weighted sum of a short string, which has `right` digits behind it. Without a test in the
+// sum, from the left and at 16 bits, the compiler takes eight digits a turn.
+fn weigh_few(m: Modulus, s: &[u8], right: usize) -> u64
+    requires { ⌜ (length (now s) ≤ few) × (right < 2 ^ 63) ⌝ }
+    ensures { λ r. ⌜ r ≡ weighed (behind right (counts m)) (now (s .entry)) ⌝ }
 {
-    if sum < LARGE { sum } else { sum % base_of(m) }
+    let mut sum = 0u16;
+    let mut k = s.len() + right;
+    let mut i = 0;
+    while i < s.len() {
+        k -= 1;
+        sum += count(m, k, digit_of(s[i])) as u16;
+        i += 1;
+    }
+    sum as u64
 }
 
-// The weighted sum of s, which has `right` digits behind it, as a remainder.
-fn weigh(m: Modulus, s: &[u8], right: usize) -> u64
+// The same as a remainder, of a string of any length: the sum is reduced at every digit.
+fn weigh_many(m: Modulus, s: &[u8], right: usize) -> u64
     requires { ⌜ right < 2 ^ 63 ⌝ }
     ensures { λ r. ⌜ r ≡ weighed (behind right (counts m)) (now (s .entry)) % base m ⌝ }
 {
@@ -56,10 +67,21 @@ fn weigh(m: Modulus, s: &[u8], right: usize) -> u64
     let mut i = s.len();
     while 0 < i {
         i -= 1;
-        sum = reduced(m, sum) + count(m, k, digit_of(s[i]));
+        sum = (sum + count(m, k, digit_of(s[i]))) % base_of(m);
         k += 1;
     }
-    sum % base_of(m)
+    sum
+}
+
+// The weighted sum of s, which has `right` digits behind it, as a remainder.
+fn weigh(m: Modulus, s: &[u8], right: usize) -> u64
+    requires { ⌜ right < 2 ^ 63 ⌝ }
+    ensures { λ r. ⌜ r ≡ weighed (behind right (counts m)) (now (s .entry)) % base m ⌝ }
+{
+    if FEW < s.len() {
+        return weigh_many(m, s, right);
+    }
+    weigh_few(m, s, right) % base_of(m)
 }
 
 // The check digit for a remainder, as a byte.

@@ -1,10 +1,10 @@
 // The number that a digit string spells, and the digits of a number at a width.
-use super::digit_of;
 use super::leading;
 ghost use mathlib.Core.Path.{_≡_};
 ghost use Prim.Native.Nat.{_≤_};
 ghost use lib.ListN.{length, replicate};
-ghost use Rattle.digits.specs.Numbers.{mostDigits, number, numberOf, star, numeral};
+ghost use Rattle.digits.specs.Digits.{digitOf};
+ghost use Rattle.digits.specs.Numbers.{mostDigits, number, numberOf, value, star, numeral};
 
 // Of more digits the number might not fit.
 const MOST_DIGITS: usize = 19;
@@ -17,6 +17,15 @@ pub enum Number {
     Not,
 }
 
+// What a byte counts, as `digit_of` gives it, for one digit at a time: the difference wraps below
+// '0', so that one test does.
+fn worth(b: u8) -> u64
+    ensures { λ r. ⌜ (r ≡ digitOf b) × (r ≤ 9) ⌝ }
+{
+    let d = std::num::wrapping_sub_u64(b as u64, b'0' as u64);
+    if d < 10 { d } else { 0 }
+}
+
 // The number that the digits give, from the left.
 fn spelled(s: &[u8]) -> u64
     requires { ⌜ length (now s) ≤ mostDigits ⌝ }
@@ -25,10 +34,20 @@ fn spelled(s: &[u8]) -> u64
     let mut n = 0;
     let mut i = 0;
     while i < s.len() {
-        n = n * 10 + digit_of(s[i]);
+        n = n * 10 + worth(s[i]);
         i += 1;
     }
     n
+}
+
+// Of digits that have been looked at already.
+pub fn value(s: &[u8]) -> u64
+    ensures { λ r. ⌜ r ≡ value (now (s .entry)) ⌝ }
+{
+    if MOST_DIGITS < s.len() {
+        return 0;
+    }
+    spelled(s)
 }
 
 pub fn number_of(s: &[u8]) -> Number

@@ -44,7 +44,7 @@ for-mark k {p} q e m = rw (q, e) (go (ltb k firstLetter) (rw e at m))
     go false m = let t = mark-there k (length (p .bytes)) e m in for-text {number = 11} (t .room) (rw (t .is))
 
 -- text, which is right unless its first byte is blank; and then all have to be
-pub for-blank : {k : ℕ} {p : Part} {x : Look} → k ≡ 10 → x ≡ textLook (p .bytes) → Holds (mayBe (kindOf k) (length (p .bytes))) → Looked (kindOf k) p x
+pub for-blank : {k : ℕ} {p : Part} {x : Look} → k ≡ 7 → x ≡ textLook (p .bytes) → Holds (mayBe (kindOf k) (length (p .bytes))) → Looked (kindOf k) p x
 for-blank {k} {p} e q m = at-key e (subst⁻¹ (λ (y : Look). Looked Txt p y) q (go (eqb (getD (p .bytes) 0 0) blank) refl))
   where
     go : (b : Bool) → eqb (getD (p .bytes) 0 0) blank ≡ b → Looked Txt p (cond b (Text 13 0) (Tested Accepted))

@@ -1,5 +1,5 @@
 -- The walk over a record's fields and their bytes, on plain lists: one byte more, the first that is wrong, and the end. Assumes nothing.
-use mathlib.Core.Path.{_≡_, refl, sym, ap, _∙_}
+use mathlib.Core.Path.{_≡_, refl, sym, ap, _∙_, subst⁻¹}
 use mathlib.Core.Logic.{_≢_}
 use mathlib.Core.Bool.{Bool, true, false, not}
 use mathlib.Core.List.{List, [], _∷_, _++_}
@@ -19,9 +19,11 @@ use Rattle.digits.specs.laws.Strings.{leading-drop}
 use Rattle.layout.specs.Table.{none, typeField, segmentFields, marks}
 use Rattle.layout.specs.Kinds.{aPart, means, same}
 use Rattle.layout.specs.Record.{rulesOf}
-use Rattle.layout.specs.Lent.{all, kindOf, fieldCount}
+use Rattle.layout.specs.Lent.{all, kindOf, whole?, fieldCount}
+use Rattle.layout.specs.Masks.{Right, Known}
 use Rattle.layout.specs.laws.Bytes.{same-turn, same-end}
 use Rattle.layout.specs.laws.Columns.{Stands, all-length, no-segment}
+use Rattle.layout.specs.laws.Masks.{enough}
 use Rattle.layout.specs.Steps.{hasSegment}
 use Rattle.layout.specs.declared.Direction.{Direction}
 use Rattle.layout.specs.declared.Record.{Record}
@@ -80,6 +82,11 @@ module _ (rec : List ℕ) (d : Direction) (f past : ℕ) where
 
     pub here-at : Here rec d f past (means (kindOf k) .rules (aPart from (places from to rec) rec d))
     here-at = record { good = λ t. rw opened (gone-on _ _ t); bad = λ {r} t. rw opened (stopped _ _ r (sym t)) }
+
+  -- what the masks have tested
+  pub skip-at : {masked : Bool} {first from to k : ℕ} → Known masked first past d rec → masked ≡ true → first ≤ f → f < past → Stands f from to k → whole? k ≡ false
+      → firstBroken (means (kindOf k) .rules (aPart from (places from to rec) rec d)) ≡ Accepted
+  skip-at {k} known m l h s w = subst⁻¹ (Right d rec) (s .is) (known .each m f l h) (enough k w)
 
   pub finished : f ≤ past → past ≤ f → Accepted ≡ firstBroken (rulesOf (slice f past all) d rec)
   unfolding rulesOf

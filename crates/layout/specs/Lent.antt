@@ -64,7 +64,11 @@ entryIn from to kind f = record { from = inColumn from f; to = inColumn to f; ki
 -- ---- kinds by number
 
 abbrev pub kinds : List Kind
-kinds = N ∷ D ∷ Time ∷ zeroOneTwo ∷ zeroNine ∷ oneTwo ∷ Service ∷ Form ∷ Id ∷ Barcode ∷ T ∷ O ∷ K ∷ Zeros ∷ exactC ∷ exact09 ∷ exact52 ∷ []
+kinds = N ∷ D ∷ Time ∷ zeroNine ∷ Service ∷ Form ∷ Barcode ∷ T ∷ zeroOneTwo ∷ oneTwo ∷ Id ∷ O ∷ K ∷ Zeros ∷ exactC ∷ exact09 ∷ exact52 ∷ []
+
+-- D to T have a rule for the field as a whole
+abbrev pub whole? : ℕ → Bool
+whole? n = leb 1 n && leb n 7
 
 -- types and segments are named by their byte, from 0 to Z; any other number names F
 abbrev pub firstMark : ℕ

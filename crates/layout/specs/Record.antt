@@ -4,6 +4,7 @@ use mathlib.Core.List.{List, [], _∷_, _++_}
 use Prim.Native.Nat.{ℕ, suc}
 use lib.Dec.{leb, eqb}
 use lib.ListN.{length}
+use lib.Seq.{slice}
 use Rattle.answer.specs.Rules.{Rule, rule}
 use Rattle.layout.specs.Table.{Field, part, marks, fieldsOf, recordBytes}
 use Rattle.layout.specs.Kinds.{Part, aPart, means}
@@ -44,3 +45,7 @@ firstRules r d rec = rule 1 0 (eqb (length rec) recordBytes) ∷ byteRule rec �
 -- then all fields
 unfoldable pub recordRules : Record → Direction → List ℕ → List Rule
 recordRules r d rec = firstRules r d rec ++ rulesOf (fieldsOf r) d rec
+
+-- the fields of a record from one index up to another, of a record of the right length
+abbrev pub someRules : Record → Direction → ℕ → ℕ → List ℕ → List Rule
+someRules r d first past rec = rule 1 0 (eqb (length rec) recordBytes) ∷ rulesOf (slice first past (fieldsOf r)) d rec

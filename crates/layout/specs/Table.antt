@@ -54,12 +54,18 @@ typeOf SegmentZ = digitByte 3
 typeOf BatchTrailer = digitByte 5
 typeOf FileTrailer = digitByte 9
 
+abbrev pub typePlace : ℕ
+typePlace = 8
+
 abbrev pub typeField : Record → Field
-typeField r = field 8 8 (RecordType (typeOf r))
+typeField r = field typePlace typePlace (RecordType (typeOf r))
+
+abbrev pub segmentPlace : ℕ
+segmentPlace = 14
 
 -- the letter of a detail: A 65, B 66, J 74, Z 90
 abbrev pub segmentField : ℕ → Field
-segmentField letter = field 14 14 (Segment letter)
+segmentField letter = field segmentPlace segmentPlace (Segment letter)
 
 abbrev pub segmentFields : Record → List Field
 segmentFields FileHeader = []
@@ -78,8 +84,14 @@ marks r = typeField r ∷ segmentFields r
 -- ---- the table
 
 -- all lines
+abbrev pub bankField : Field
+bankField = field 1 3 N
+
+abbrev pub batchField : Field
+batchField = field 4 7 N
+
 abbrev pub line : Record → List Field
-line r = field 1 3 N ∷ field 4 7 N ∷ typeField r ∷ []
+line r = bankField ∷ batchField ∷ typeField r ∷ []
 
 -- domains
 abbrev pub zeroOneTwo : Kind
@@ -108,8 +120,11 @@ company =
     ∷ field 73 102 T ∷ []
 
 -- all details
+abbrev pub numberField : Field
+numberField = field 9 13 N
+
 abbrev pub detail : Record → List Field
-detail r = line r ++ field 9 13 N ∷ segmentFields r
+detail r = line r ++ numberField ∷ segmentFields r
 
 -- service and form
 abbrev pub serviceField : Field
@@ -118,10 +133,49 @@ serviceField = field 10 11 Service
 abbrev pub formField : Field
 formField = field 12 13 Form
 
+-- remittance or return
+abbrev pub directionField : Field
+directionField = field 143 143 oneTwo
+
+-- the amount of a payment, in A and in J, and what else a boleto pays by
+abbrev pub creditAmount : Field
+creditAmount = field 120 134 N
+
+abbrev pub barcodeField : Field
+barcodeField = field 18 61 Barcode
+
+abbrev pub dueField : Field
+dueField = field 92 99 D
+
+abbrev pub nominalField : Field
+nominalField = field 100 114 N
+
+abbrev pub discountField : Field
+discountField = field 115 129 N
+
+abbrev pub fineField : Field
+fineField = field 130 144 N
+
+abbrev pub boletoAmount : Field
+boletoAmount = field 153 167 N
+
+-- counts and sum of the trailers
+abbrev pub batchRecords : Field
+batchRecords = field 18 23 N
+
+abbrev pub batchSum : Field
+batchSum = field 24 41 N
+
+abbrev pub fileBatches : Field
+fileBatches = field 18 23 N
+
+abbrev pub fileRecords : Field
+fileRecords = field 24 29 N
+
 unfoldable pub fieldsOf : Record → List Field
 fieldsOf FileHeader =
     line FileHeader ++ field 9 17 K ∷ company
-    ++ field 103 132 T ∷ field 133 142 K ∷ field 143 143 oneTwo ∷ field 144 151 D ∷ field 152 157 Time ∷ field 158 163 N ∷ field 164 166 N
+    ++ field 103 132 T ∷ field 133 142 K ∷ directionField ∷ field 144 151 D ∷ field 152 157 Time ∷ field 158 163 N ∷ field 164 166 N
     ∷ field 167 171 N ∷ field 172 240 F ∷ []
 fieldsOf BatchHeader =
     line BatchHeader ++ field 9 9 exactC ∷ serviceField ∷ formField ∷ field 14 16 N ∷ field 17 17 K ∷ company
@@ -129,13 +183,13 @@ fieldsOf BatchHeader =
 fieldsOf SegmentA =
     detail SegmentA
     ++ field 15 15 zeroNine ∷ field 16 17 N ∷ field 18 20 N ∷ field 21 23 N ∷ field 24 28 N ∷ field 29 29 F ∷ field 30 41 N ∷ field 42 42 F
-    ∷ field 43 43 F ∷ field 44 73 T ∷ field 74 93 T ∷ field 94 101 D ∷ field 102 104 F ∷ field 105 119 N ∷ field 120 134 N ∷ field 135 154 F
+    ∷ field 43 43 F ∷ field 44 73 T ∷ field 74 93 T ∷ field 94 101 D ∷ field 102 104 F ∷ field 105 119 N ∷ creditAmount ∷ field 135 154 F
     ∷ field 155 162 N ∷ field 163 177 N ∷ field 178 230 F ∷ field 231 240 O ∷ []
 fieldsOf SegmentB = detail SegmentB ++ field 15 17 F ∷ field 18 18 zeroOneTwo ∷ field 19 32 Id ∷ field 33 240 F ∷ []
 fieldsOf SegmentJ =
     detail SegmentJ
-    ++ field 15 15 zeroNine ∷ field 16 17 N ∷ field 18 61 Barcode ∷ field 62 91 T ∷ field 92 99 D ∷ field 100 114 N ∷ field 115 129 N
-    ∷ field 130 144 N ∷ field 145 152 D ∷ field 153 167 N ∷ field 168 182 Zeros ∷ field 183 202 T ∷ field 203 222 F ∷ field 223 224 exact09
+    ++ field 15 15 zeroNine ∷ field 16 17 N ∷ barcodeField ∷ field 62 91 T ∷ dueField ∷ nominalField ∷ discountField ∷ fineField
+    ∷ field 145 152 D ∷ boletoAmount ∷ field 168 182 Zeros ∷ field 183 202 T ∷ field 203 222 F ∷ field 223 224 exact09
     ∷ field 225 230 K ∷ field 231 240 O ∷ []
 fieldsOf SegmentJ52 =
     detail SegmentJ52
@@ -144,8 +198,8 @@ fieldsOf SegmentJ52 =
 fieldsOf SegmentZ = detail SegmentZ ++ field 15 240 F ∷ []
 fieldsOf BatchTrailer =
     line BatchTrailer
-    ++ field 9 17 K ∷ field 18 23 N ∷ field 24 41 N ∷ field 42 59 N ∷ field 60 65 N ∷ field 66 230 K ∷ field 231 240 O ∷ []
-fieldsOf FileTrailer = line FileTrailer ++ field 9 17 K ∷ field 18 23 N ∷ field 24 29 N ∷ field 30 35 N ∷ field 36 240 K ∷ []
+    ++ field 9 17 K ∷ batchRecords ∷ batchSum ∷ field 42 59 N ∷ field 60 65 N ∷ field 66 230 K ∷ field 231 240 O ∷ []
+fieldsOf FileTrailer = line FileTrailer ++ field 9 17 K ∷ fileBatches ∷ fileRecords ∷ field 30 35 N ∷ field 36 240 K ∷ []
 
 -- ---- its rule
 

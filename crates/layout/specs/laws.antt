@@ -4,3 +4,4 @@ pub mod Tiling
 pub mod Sound
 pub mod Texts
 pub mod Columns
+pub mod Masks

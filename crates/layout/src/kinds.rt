@@ -1,7 +1,7 @@
 // The kinds of field, by number, and what a field of each kind is filled with.
 ghost use mathlib.Core.Path.{_≡_};
 ghost use Prim.Native.Nat.{_≤_};
-ghost use Rattle.layout.specs.Lent.{firstMark, lastMark, markAt, fillOf};
+ghost use Rattle.layout.specs.Lent.{whole?, firstMark, lastMark, markAt, fillOf};
 
 // The caller's number, the caller's text, or the byte string that begins here in the fixed text.
 pub enum Fill {
@@ -10,29 +10,28 @@ pub enum Fill {
     Fixed(usize),
 }
 
-// Held as a number.
 pub(crate) const N: u8 = 0;
 
+// From here to T: a rule for the field as a whole. All others have a rule for each byte alone.
 pub(crate) const D: u8 = 1;
 
 pub(crate) const TIME: u8 = 2;
 
-pub(crate) const ZERO_ONE_TWO: u8 = 3;
+pub(crate) const ZERO_NINE: u8 = 3;
 
-pub(crate) const ZERO_NINE: u8 = 4;
+pub(crate) const SERVICE: u8 = 4;
 
-pub(crate) const ONE_TWO: u8 = 5;
+pub(crate) const FORM: u8 = 5;
 
-pub(crate) const SERVICE: u8 = 6;
+pub(crate) const BARCODE: u8 = 6;
 
-pub(crate) const FORM: u8 = 7;
+pub(crate) const T: u8 = 7;
 
-// Held as bytes.
-pub(crate) const ID: u8 = 8;
+pub(crate) const ZERO_ONE_TWO: u8 = 8;
 
-pub(crate) const BARCODE: u8 = 9;
+pub(crate) const ONE_TWO: u8 = 9;
 
-pub(crate) const T: u8 = 10;
+pub(crate) const ID: u8 = 10;
 
 pub(crate) const O: u8 = 11;
 
@@ -62,6 +61,13 @@ pub(crate) const CODE_09_AT: usize = 221;
 pub(crate) const CODE_52_AT: usize = 223;
 
 const MARKS_AT: usize = 225;
+
+// Whether the kind's rule is one for the field as a whole.
+pub(crate) fn is_whole(k: u8) -> bool
+    ensures { λ r. ⌜ r ≡ whole? k ⌝ }
+{
+    (D <= k) & (k <= T)
+}
 
 // Where the byte of a type or a segment stands in the fixed text.
 pub(crate) fn mark_at(k: u8) -> usize

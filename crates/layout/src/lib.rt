@@ -2,6 +2,7 @@
 mod bytes;
 mod kinds;
 mod looks;
+mod masks;
 pub mod names;
 mod pairs;
 mod table;
@@ -12,6 +13,8 @@ pub use bytes::check_bytes;
 pub use bytes::copy;
 pub use kinds::Fill;
 pub use kinds::fill_of;
+pub use pairs::Batch;
+pub use pairs::batch_of;
 pub use table::Entry;
 pub use table::FIELDS;
 pub use table::FIXED_BYTES;
@@ -24,7 +27,7 @@ pub use table::fixed_text;
 pub use table::span_of;
 ghost use mathlib.Core.Path.{_≡_};
 ghost use Rattle.answer.specs.Rules.{firstBroken};
-ghost use Rattle.layout.specs.Record.{recordRules};
+ghost use Rattle.layout.specs.Record.{recordRules, someRules};
 
 pub enum Direction {
     Remittance,
@@ -62,6 +65,21 @@ pub fn check_record(rec: &[u8], which: Record, dir: Direction) -> Answer
     let fixed = fixed_text();
     let clean = check_bytes(rec);
     let marks = walk::check_marks(&from, &to, &kind, &fixed, rec, which, dir);
-    let fields = walk::check_fields(&from, &to, &kind, &fixed, rec, which, dir);
+    let fields = walk::check_fields(&from, &to, &kind, &fixed, rec, which, dir, 0, FIELDS);
     clean.and_then(marks.and_then(fields))
+}
+
+// Some fields of a record: those from the index `first` up to `past`. Whoever has looked at the
+// record's head asks for those behind it.
+pub fn check_fields(rec: &[u8], which: Record, dir: Direction, first: usize, past: usize) -> Answer
+    ensures { λ r. ⌜ r ≡ firstBroken (someRules which dir first past (now (rec .entry))) ⌝ }
+{
+    if rec.len() != RECORD_BYTES {
+        return Answer::refused(WRONG_LENGTH, 0);
+    }
+    let from = FROM;
+    let to = TO;
+    let kind = KIND;
+    let fixed = fixed_text();
+    walk::check_fields(&from, &to, &kind, &fixed, rec, which, dir, first, past)
 }

@@ -70,8 +70,7 @@ fn barcode(part: &[u8], place: usize) -> Answer
     requires { ⌜ place ≤ recordBytes ⌝ }
     ensures { λ r. ⌜ r ≡ firstBroken (barcodeRules (aPart place (now (part .entry)) [] Remittance)) ⌝ }
 {
-    let spelled = digits::leading(part) == part.len();
-    let digits = Answer::test(NON_DIGIT, place, spelled);
+    let digits = Answer::test(NON_DIGIT, place, digits::all_digits(part));
     let currency = boleto::currency_fits(part);
     digits.and_then(Answer::test(DOMAIN, place + (boleto::CURRENCY_PLACE - 1), currency))
 }

@@ -37,7 +37,7 @@ fn batch_with(dir: Direction, service: u64, form: u64) -> Batch
 }
 
 // The kind of batch of a service and a form as they stand in a batch header.
-pub(crate) fn batch_of(dir: Direction, service: &[u8], form: &[u8]) -> Batch
+pub fn batch_of(dir: Direction, service: &[u8], form: &[u8]) -> Batch
     ensures { λ r. ⌜ r ≡ batchOf dir (now (service .entry)) (now (form .entry)) ⌝ }
 {
     let Number::Is(s) = digits::number_of(service) else {

@@ -540,7 +540,7 @@ pub fn span_of(which: Record) -> Span
     }
 }
 
-fn wide(b: u8) -> usize
+pub(crate) fn wide(b: u8) -> usize
     ensures { λ r. ⌜ r ≡ b ⌝ }
 {
     b as usize

@@ -1,21 +1,25 @@
 // The walk over a record's fields and their bytes, left at the first wrong byte.
 use super::Direction;
 use super::Record;
+use super::kinds::is_whole;
 use super::looks::Look;
 use super::looks::NON_DIGIT;
 use super::looks::look_at;
+use super::masks;
 use super::table;
 use super::table::Entry;
 use super::table::FIELDS;
+use super::table::wide;
 use answer::Answer;
 ghost use mathlib.Core.Path.{_≡_};
-ghost use Prim.Native.Nat.{_≤_, _<_};
+ghost use Prim.Native.Nat.{_≤_, _<_, min};
 ghost use lib.ListN.{length};
 ghost use lib.Seq.{slice};
 ghost use Rattle.answer.specs.Rules.{firstBroken};
 ghost use Rattle.layout.specs.Table.{recordBytes, marks, fieldsOf};
 ghost use Rattle.layout.specs.Record.{rulesOf};
 ghost use Rattle.layout.specs.Lent.{fieldCount, all, fixedText, Columns};
+ghost use Rattle.layout.specs.Masks.{Known};
 ghost use Rattle.layout.specs.Steps.{hasSegment};
 ghost use Rattle.layout.specs.laws.Columns.{Stands};
 
@@ -24,16 +28,21 @@ const TYPE_FIELD: usize = 2;
 
 const SEGMENT_FIELD: usize = 4;
 
-// An entry of the table, whose columns are lent.
+// An entry of the table, whose columns are lent. It is read without a test, the index being known.
 fn field_at(from: &[u8; FIELDS], to: &[u8; FIELDS], kind: &[u8; FIELDS], f: usize) -> Entry
     requires { ⌜ Columns (now from) (now to) (now kind) ⌝ }
     requires { ⌜ f < fieldCount ⌝ }
     ensures { λ r. ⌜ Stands f (r .from) (r .to) (r .kind) ⌝ }
 {
-    table::entry_at(from, to, kind, f)
+    Entry {
+        from: wide(from[f]),
+        to: wide(to[f]),
+        kind: kind[f],
+    }
 }
 
-// The rules of the fields from `first` up to `past`.
+// The rules of the fields from `first` up to `past`. Where the record lies between its masks, a field
+// with a rule for each byte alone is right, and is not looked at.
 fn walk(
     from: &[u8; FIELDS],
     to: &[u8; FIELDS],
@@ -43,10 +52,12 @@ fn walk(
     first: usize,
     past: usize,
     dir: Direction,
+    masked: bool,
 ) -> Answer
     requires { ⌜ Columns (now from) (now to) (now kind) ⌝ }
     requires { ⌜ now fixed ≡ fixedText ⌝ }
     requires { ⌜ (length (now rec) ≡ recordBytes) × (first ≤ past) × (past ≤ fieldCount) ⌝ }
+    requires { ⌜ Known masked first past dir (now rec) ⌝ }
     ensures { λ r. ⌜ r ≡ firstBroken (rulesOf (slice first past all) dir (now (rec .entry))) ⌝ }
 {
     let mut f = first;
@@ -56,6 +67,10 @@ fn walk(
         }
         let e = field_at(from, to, kind, f);
         let k = e.kind;
+        if masked & !is_whole(k) {
+            f += 1;
+            continue 'fields;
+        }
         let place = e.from;
         let start = place - 1;
         let end = e.to;
@@ -127,15 +142,31 @@ pub(crate) fn check_marks(
 {
     let s = table::span_of(which);
     let type_at = s.first + TYPE_FIELD;
-    let type_fits = walk(from, to, kind, fixed, rec, type_at, type_at + 1, dir);
+    let type_fits = walk(from, to, kind, fixed, rec, type_at, type_at + 1, dir, false);
     if !has_segment(which) {
         return type_fits;
     }
     let segment_at = s.first + SEGMENT_FIELD;
-    type_fits.and_then(walk(from, to, kind, fixed, rec, segment_at, segment_at + 1, dir))
+    type_fits.and_then(walk(
+        from,
+        to,
+        kind,
+        fixed,
+        rec,
+        segment_at,
+        segment_at + 1,
+        dir,
+        false,
+    ))
 }
 
-// All fields of a record.
+fn least(a: usize, b: usize) -> usize
+    ensures { λ r. ⌜ r ≡ min a b ⌝ }
+{
+    if a < b { a } else { b }
+}
+
+// The fields of a record from the index `first` up to `past`.
 pub(crate) fn check_fields(
     from: &[u8; FIELDS],
     to: &[u8; FIELDS],
@@ -144,12 +175,29 @@ pub(crate) fn check_fields(
     rec: &[u8],
     which: Record,
     dir: Direction,
+    first: usize,
+    past: usize,
 ) -> Answer
     requires { ⌜ Columns (now from) (now to) (now kind) ⌝ }
     requires { ⌜ now fixed ≡ fixedText ⌝ }
     requires { ⌜ length (now rec) ≡ recordBytes ⌝ }
-    ensures { λ r. ⌜ r ≡ firstBroken (rulesOf (fieldsOf which) dir (now (rec .entry))) ⌝ }
+    ensures { λ r. ⌜ r ≡ firstBroken (rulesOf (slice first past (fieldsOf which)) dir (now (rec .entry))) ⌝ }
 {
     let s = table::span_of(which);
-    walk(from, to, kind, fixed, rec, s.first, s.past, dir)
+    let end = least(past, s.past - s.first);
+    if end <= first {
+        return Answer::Accepted;
+    }
+    let masked = masks::hold(rec, which, dir);
+    walk(
+        from,
+        to,
+        kind,
+        fixed,
+        rec,
+        s.first + first,
+        s.first + end,
+        dir,
+        masked,
+    )
 }

@@ -14,7 +14,7 @@ const ROOM: usize = 3;
 
 const LENGTH: usize = 9;
 
-const DIGITS: usize = 6;
+pub(crate) const DIGITS: usize = 6;
 
 const END: usize = 15;
 
@@ -23,6 +23,8 @@ pub(crate) enum Op {
     LineToBarcode,
     ReadRecord(Record, Direction),
     WriteRecord(Record, Direction),
+    CheckFile,
+    StepLines,
     Malformed,
 }
 
@@ -43,7 +45,7 @@ pub(crate) struct Header {
 }
 
 // The number that six bytes announce, where they are digits.
-fn announced(head: &[u8], from: usize) -> Number
+pub(crate) fn announced(head: &[u8], from: usize) -> Number
     requires { ⌜ from + announcedDigits ≤ length (now head) ⌝ }
     ensures { λ r. ⌜ Announced r ⌝ }
 {
@@ -73,8 +75,8 @@ fn way_of(direction: u8) -> Way {
     }
 }
 
-// An op on a digit string has no record kind, and any direction.
-fn digits_op(op: Op, kind: u8, direction: u8) -> Op {
+// An op on a digit string or on lines has no record kind, and any direction.
+fn plain_op(op: Op, kind: u8, direction: u8) -> Op {
     let known = (direction == b'1') | (direction == b'2') | (direction == b'-');
     if known & (kind == b'-') {
         op
@@ -99,10 +101,12 @@ fn record_op(op: u8, kind: u8, direction: u8) -> Op {
 
 fn op_of(op: u8, kind: u8, direction: u8) -> Op {
     match op {
-        b'B' => digits_op(Op::BarcodeToLine, kind, direction),
-        b'D' => digits_op(Op::LineToBarcode, kind, direction),
+        b'B' => plain_op(Op::BarcodeToLine, kind, direction),
+        b'D' => plain_op(Op::LineToBarcode, kind, direction),
         b'C' => record_op(op, kind, direction),
         b'W' => record_op(op, kind, direction),
+        b'F' => plain_op(Op::CheckFile, kind, direction),
+        b'L' => plain_op(Op::StepLines, kind, direction),
         _ => Op::Malformed,
     }
 }

@@ -6,7 +6,10 @@
 //
 // B and D turn a barcode and a digit line into each other. C reads a record; its `OK` is followed by
 // a number, or `-`, for each field, and by a line with the text. W writes a record: the payload has 20
-// digits for each field, and then the text.
+// digits for each field, and then the text. F checks a whole file, and its line is the program's. L
+// steps over lines: the payload has calls, each six digits for a length and so many bytes; there is a
+// line for each call, and then one for the end, as of F.
+mod files;
 mod header;
 mod records;
 mod reply;
@@ -44,6 +47,8 @@ fn call(op: Op, payload: &[u8], out: &mut [u8]) {
         Op::LineToBarcode => reply::memory(boleto::line_to_barcode(payload, out), out),
         Op::ReadRecord(which, dir) => records::read(payload, which, dir),
         Op::WriteRecord(which, dir) => records::write(payload, which, dir, out),
+        Op::CheckFile => files::check(payload),
+        Op::StepLines => files::step_lines(payload),
         Op::Malformed => reply::malformed(),
     }
 }

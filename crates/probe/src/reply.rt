@@ -1,5 +1,6 @@
 // Replies, on standard output.
 use answer::Answer;
+use checker::Outcome;
 use libc::STDOUT_FILENO;
 
 pub(crate) fn bytes(text: &[u8]) {
@@ -25,6 +26,21 @@ pub(crate) fn line(answer: Answer) {
             bytes(b"OK\n");
         }
         Answer::Refused(r) => refused(r.number as u64, r.line.0, r.place as u64),
+    }
+}
+
+// Of a whole file, or of the end.
+pub(crate) fn outcome(outcome: Outcome) {
+    match outcome {
+        Outcome::Accepted(t) => {
+            bytes(b"OK");
+            spaced(t.batches);
+            spaced(t.records.0);
+            spaced(t.payments);
+            spaced(t.cents.0);
+            bytes(b"\n");
+        }
+        Outcome::Refused(r) => line(Answer::Refused(r)),
     }
 }
 

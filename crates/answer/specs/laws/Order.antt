@@ -1,7 +1,7 @@
 -- Laws of rules in an order: what each answer says, that there is one answer, and rules behind others. Assumes nothing.
 use mathlib.Core.Path.{_≡_, refl, sym, ap, _∙_}
 use mathlib.Core.Bool.{Bool, true, false, cond}
-use mathlib.Core.List.{List, [], _∷_, _++_, map}
+use mathlib.Core.List.{List, [], _∷_, _++_, map, append-assoc}
 use Prim.Native.Nat.{ℕ}
 use native.Mathlib.Omega.{arith}
 use Rattle.answer.specs.Rules.{Rule, rule, firstBroken, AllKept, Broken, Allowed, accepted, refused, refusedAs, andThen, onLine, ruleOnLine}
@@ -86,6 +86,17 @@ first-append (x ∷ xs) ys = rw (first-append xs ys) (go (x .kept))
 pub one-then : (r : Rule) (later : List Rule) (a : Answer) → a ≡ firstBroken later → andThen (firstBroken (r ∷ [])) a ≡ firstBroken (r ∷ later)
 one-then r later a e = rw e (sym (first-append (r ∷ []) later))
 
+-- answers joined: a rule's with that of the rules behind it, and those of lists
+module _ {o a b : Answer} (o-is : o ≡ andThen a b) where
+  pub ahead : (r : Rule) (later : List Rule) → a ≡ firstBroken (r ∷ []) → b ≡ firstBroken later → o ≡ firstBroken (r ∷ later)
+  ahead r later e f = o-is ∙ rw e (one-then r later b f)
+
+  pub joined : (xs ys : List Rule) → a ≡ firstBroken xs → b ≡ firstBroken ys → o ≡ firstBroken (xs ++ ys)
+  joined xs ys e f = o-is ∙ rw (e, f) (sym (first-append xs ys))
+
+  pub joined-three : (xs ys zs : List Rule) {c d : Answer} → b ≡ andThen c d → a ≡ firstBroken xs → c ≡ firstBroken ys → d ≡ firstBroken zs → o ≡ firstBroken (xs ++ ys ++ zs)
+  joined-three xs ys zs b-is e f g = o-is ∙ rw (b-is, e, f, g) (sym (ap firstBroken (append-assoc xs ys zs) ∙ first-append xs (ys ++ zs) ∙ ap (andThen (firstBroken xs)) (first-append ys zs)))
+
 pub first-on-line : (line : LineNo) (rs : List Rule) → firstBroken (map (ruleOnLine line) rs) ≡ onLine line (firstBroken rs)
 unfolding firstBroken
 first-on-line line [] = refl
@@ -123,3 +134,14 @@ front-accepted xs ys e = go (firstBroken xs) (sym (first-append xs ys) ∙ e)
     go : (a : Answer) → andThen a (firstBroken ys) ≡ Accepted → a ≡ Accepted
     go Accepted q = refl
     go (Refused r) q = q
+
+-- the rules of two lists that are all kept
+pub kept-front : (xs ys : List Rule) → AllKept (xs ++ ys) → AllKept xs
+unfolding AllKept
+kept-front [] ys k = tt
+kept-front (x ∷ xs) ys k = (k .0, kept-front xs ys (k .1))
+
+pub kept-behind : (xs ys : List Rule) → AllKept (xs ++ ys) → AllKept ys
+unfolding AllKept
+kept-behind [] ys k = k
+kept-behind (x ∷ xs) ys k = kept-behind xs ys (k .1)

@@ -21,4 +21,4 @@ returns-2 : tie.Need-returns-2
 returns-2 c = (rw (sym (c .before .is-digit .ensures) ∙ c .if1 .left), search needs)
 
 pub digit-of-spec : {M : Type 1} → statement M
-digit-of-spec = tie.close (tie.spec (λ c κs. search needs) sub-result (λ c. search needs) returns returns-2)
+digit-of-spec = tie.close (tie.spec (λ c κs. search needs) (λ c. search needs) sub-result returns returns-2)

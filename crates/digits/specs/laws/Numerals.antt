@@ -3,7 +3,7 @@ use mathlib.Core.Path.{_≡_, refl, sym, ap, ap₂, _∙_}
 use mathlib.Core.Bool.{Bool, true, false, cond, _&&_}
 use mathlib.Core.List.{List, [], _∷_, _++_}
 use Prim.Native.Nat.{ℕ, zero, suc, _+_, _-_, _*_, _/_, _%_, _^_, _<_, _≤_}
-use native.Mathlib.Nat.{pow-succ', pow-suc, pow-le-pow-right, add-mul, mul-assoc, div-lt-iff-lt-mul}
+use native.Mathlib.Nat.{pow-succ', pow-suc, pow-le-pow-right, one-le-pow, add-mul, mul-assoc, div-lt-iff-lt-mul}
 use native.Mathlib.Decide.{decLt}
 use native.Mathlib.Numerals.{add-one}
 use native.Mathlib.Omega.{arith}
@@ -12,7 +12,7 @@ use lib.Arith.{digits-lt, digits-div, digits-mod}
 use lib.Dec.{leb, eqb}
 use lib.ListN.{length, length-append, length-replicate, getD, drop, replicate}
 use Rattle.digits.specs.Digits.{digitOf, digitByte, leading, weighed}
-use Rattle.digits.specs.Numbers.{number, mostDigits, numberOf, lastDigits, star, numeral}
+use Rattle.digits.specs.Numbers.{number, mostDigits, numberOf, value, lastDigits, star, numeral}
 use Rattle.digits.specs.declared.spelling.Number.the-variants.{Is, Not}
 use Rattle.digits.specs.laws.Strings.{Digit, Digits, digit-small, digit-value, same-digit, digits-nil, digits-cons, digits-append, head, rest, leading-all, all-leading}
 use Rattle.digits.specs.laws.Sums.{weighed-drop}
@@ -148,3 +148,11 @@ pub number-turn : (n i : ℕ) (s : List ℕ) → i < length s →
 number-turn n i s h =
     let left : length s - i ≡ suc (length s - suc i) = omega arith in
     rw (weighed-drop (λ k d. d * 10 ^ k) s i h, left, pow-succ', add-mul, mul-assoc) (omega arith)
+
+-- bytes of a width spell a number of no more digits
+pub value-lt : (w : ℕ) (bs : List ℕ) → length bs ≤ w → value bs < 10 ^ w
+value-lt w bs h = go (leb (length bs) mostDigits)
+  where
+    go : (b : Bool) → cond b (number bs) 0 < 10 ^ w
+    go true = omega (arith, number-lt bs, pow-le-pow-right {n = 10} (omega arith) {i = length bs} {j = w} h)
+    go false = one-le-pow w 10 (omega arith)

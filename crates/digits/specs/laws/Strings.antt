@@ -1,15 +1,15 @@
 -- Digit strings: all digits, their parts, and a string written out. Assumes nothing.
 use mathlib.Core.Path.{_≡_, refl, sym, ap, _∙_, subst}
-use mathlib.Core.Bool.{Bool, true, false, cond}
+use mathlib.Core.Bool.{Bool, true, false, cond, _&&_}
 use mathlib.Core.List.{List, [], _∷_, _++_}
 use Prim.Native.Nat.{ℕ, zero, suc, _+_, _-_, _<_, _≤_, zero-le, suc-le-suc}
 use native.Mathlib.Nat.{le-of-suc-le-suc, not-suc-le-zero, sub-zero, suc-sub-suc}
 use native.Mathlib.Omega.{arith}
 use lib.ListN.{length, getD, take, drop, set}
 use lib.Seq.{getD-take, getD-drop, drop-cons, drop-set-add, take-set-lt, take-set-le}
-use lib.Dec.{T, leb, leb→le}
-use borrow.Author.Tests.{le-leb}
-use Rattle.digits.specs.Digits.{digit?, digitOf, leading}
+use lib.Dec.{T, leb, eqb, eqb·suc-suc, leb→le}
+use borrow.Author.Tests.{le-leb, ne-eqb}
+use Rattle.digits.specs.Digits.{digit?, digitOf, leading, allDigits}
 use Rattle.digits.specs.laws.Tests.{both}
 
 -- ---- one digit
@@ -86,6 +86,18 @@ leading-le (b ∷ bs) = go (digit? b) (leading-le bs)
 pub leading-drop : (s : List ℕ) (i : ℕ) → i < length s → leading (drop i s) ≡ cond (digit? (getD s i 0)) (suc (leading (drop (suc i) s))) 0
 unfolding leading
 leading-drop s i h = rw (drop-cons s i 0 h)
+
+-- a turn of one that only tests
+all-cons : (b : ℕ) (bs : List ℕ) → allDigits (b ∷ bs) ≡ digit? b && allDigits bs
+unfolding leading
+all-cons b bs = go (digit? b)
+  where
+    go : (t : Bool) → eqb (cond t (suc (leading bs)) 0) (suc (length bs)) ≡ t && allDigits bs
+    go true = eqb·suc-suc (leading bs) (length bs)
+    go false = rw (ne-eqb 0 (suc (length bs)) (λ e. omega arith))
+
+pub all-drop : (s : List ℕ) (i : ℕ) → i < length s → allDigits (drop i s) ≡ digit? (getD s i 0) && allDigits (drop (suc i) s)
+all-drop s i h = rw (drop-cons s i 0 h) (all-cons (getD s i 0) (drop (suc i) s))
 
 pub digits-append : {xs ys : List ℕ} → Digits xs → Digits ys → Digits (xs ++ ys)
 digits-append {xs = []} dx dy = dy

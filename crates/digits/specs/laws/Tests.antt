@@ -1,5 +1,5 @@
 -- Tests that antt computes, and the facts that they give. Assumes nothing.
-use mathlib.Core.Path.{_≡_}
+use mathlib.Core.Path.{refl, _≡_}
 use mathlib.Core.Bool.{Bool, true, false, not, _&&_, _||_}
 use Prim.Native.Nat.{ℕ, zero, suc, _<_}
 use native.Mathlib.Nat.{le-of-suc-le-suc, not-suc-le-zero}
@@ -35,3 +35,7 @@ apart-at d e x y t q = eqb→eq d e (or-false (eqb d e) (rw (eq-eqb x y q) at t)
 pub or-left : (a b : Bool) → T (not a) → T (a || b) → T b
 or-left true b f t = absurd f
 or-left false b f t = t
+
+pub and-regroup : (a b c d : Bool) → ((a && b) && c) && d ≡ a && ((b && c) && d)
+and-regroup true b c d = refl
+and-regroup false b c d = refl

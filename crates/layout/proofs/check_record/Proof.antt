@@ -6,6 +6,7 @@ use Rattle.answer.specs.laws.Order.{past, here, one-then, first-append}
 use Rattle.layout.specs.Table.{fieldsOf}
 use Rattle.layout.specs.Record.{recordRules}
 use Rattle.layout.specs.Lent.{fieldsOfEach, all}
+use Rattle.layout.specs.laws.Columns.{all-fields}
 use Rattle.layout.proofs.check_record.Statement.{statement}
 use Rattle.layout.proofs.check_record.Tie as tie
 
@@ -31,7 +32,7 @@ returns-2 c =
     past _ _ _ _ _ (eq-eqb _ _ (at-bytes .before .before .if1 .left))
     (c .and-then2 .ensures
     ∙ rw (at-bytes .check-bytes .ensures)
-    (one-then _ _ _ (c .before .and-then .ensures ∙ rw (at-marks .check-marks .ensures, at-fields .check-fields .ensures) (sym (first-append _ _)))))
+    (one-then _ _ _ (c .before .and-then .ensures ∙ rw (at-marks .check-marks .ensures, at-fields .check-fields .ensures, all-fields _) (sym (first-append _ _)))))
 
 pub check-record-spec : {M : Type 1} → statement M
 check-record-spec =

@@ -99,10 +99,6 @@ printable-cons b bs = go (printable b)
 pub printable-turn : (s : List ℕ) (i : ℕ) → i < length s → allPrintable (drop i s) ≡ printable (getD s i 0) && allPrintable (drop (suc i) s)
 printable-turn s i h = rw (drop-cons s i 0 h) (printable-cons (getD s i 0) (drop (suc i) s))
 
-pub and-regroup : (a b c d : Bool) → ((a && b) && c) && d ≡ a && ((b && c) && d)
-and-regroup true b c d = refl
-and-regroup false b c d = refl
-
 -- ---- bytes at places
 
 pub length-places : (a b : ℕ) (bs : List ℕ) → b ≤ length bs → length (places a b bs) ≡ b - (a - 1)

@@ -1,13 +1,14 @@
 -- What ties the code's arrays to the table. Assumes nothing.
 use mathlib.Core.Path.{_≡_, refl, sym, ap, _∙_, subst⁻¹}
-use mathlib.Core.Bool.{true, false, _&&_}
+use mathlib.Core.Bool.{Bool, true, false, _&&_}
 use mathlib.Core.List.{List, [], _∷_}
-use Prim.Native.Nat.{ℕ, _+_, _-_, _≤_, _<_}
-use borrow.Author.Tests.{lt-ltb}
+use Prim.Native.Nat.{ℕ, zero, suc, _+_, _-_, _≤_, _<_, min}
+use borrow.Author.Tests.{lt-ltb, leb-true, leb-false}
+use native.Mathlib.Nat.{zero-add, suc-add}
 use native.Mathlib.Omega.{arith}
 use lib.Dec.{T, leb, leb→le}
-use lib.ListN.{length, getD, take, List·getD-map}
-use lib.Seq.{slice, getD-take, getD-drop}
+use lib.ListN.{length, getD, take, drop, length-take, drop-of-length-le, List·getD-map}
+use lib.Seq.{slice, getD-take, getD-drop, take-nil, take-take, drop-drop, take-all, take-length}
 use Rattle.digits.specs.laws.Tests.{both}
 use Rattle.layout.specs.Table.{Kind, Field, field, fieldsOf, recordBytes, none, typeField, segmentFields}
 use Rattle.layout.specs.Lent.{records, rowOf, fieldsOfEach, all, startOf, spanOf, fieldCount, inColumn, kindOf, Columns}
@@ -71,6 +72,9 @@ module _ (r : Record) {s : Span} (e : s ≡ spanOf r) where
   pub in-table : s .past ≤ fieldCount
   in-table = rw past-is (leb→le _ _ (bounds .0))
 
+  pub many-is : s .past - s .first ≡ length (fieldsOf r)
+  many-is = rw (first-is, past-is) (omega arith)
+
   pub marks-in-table : s .first + 5 ≤ fieldCount
   marks-in-table = rw first-is (leb→le _ _ (bounds .1))
 
@@ -81,6 +85,39 @@ in-record r j h =
     sym (getD-take past all (startOf r + j) none (omega arith))
     ∙ sym (getD-drop (startOf r) (take past all) j none)
     ∙ ap (λ (fs : List Field). getD fs j none) (laid r .fields)
+
+-- some of a record's fields, among all
+take-drop : {A : Type 0} (a p : ℕ) (xs : List A) → take p (drop a xs) ≡ drop a (take (a + p) xs)
+take-drop zero p xs = rw (zero-add p)
+take-drop {A} (suc a) p [] = take-nil p ∙ sym (ap (drop (suc a)) (take-nil {A = A} (suc a + p)))
+take-drop (suc a) p (x ∷ xs) = rw (suc-add a p) (take-drop a p xs)
+
+cut : (r : Record) (f p : ℕ) → p ≤ length (fieldsOf r) → slice (startOf r + f) (startOf r + p) all ≡ slice f p (fieldsOf r)
+cut r f p h =
+    let a = startOf r in
+    sym
+    (ap (λ (fs : List Field). slice f p fs) (sym (laid r .fields))
+    ∙ ap (drop f) (take-drop a p (take (a + length (fieldsOf r)) all) ∙ ap (drop a) (take-take (a + p) (a + length (fieldsOf r)) all (omega arith)))
+    ∙ drop-drop f a (take (a + p) all))
+
+up-to : {A : Type 0} (p : ℕ) (xs : List A) (short : Bool) → leb p (length xs) ≡ short → take (min p (length xs)) xs ≡ take p xs
+up-to p xs true e =
+    let h = leb-true p (length xs) e in
+    let m : min p (length xs) ≡ p = omega arith in
+    rw m
+up-to p xs false e =
+    let h = leb-false p (length xs) e in
+    let m : min p (length xs) ≡ length xs = omega arith in
+    rw m (take-length xs ∙ sym (take-all p xs (omega arith)))
+
+pub some-fields : (r : Record) (f p e : ℕ) → e ≡ min p (length (fieldsOf r)) → slice (startOf r + f) (startOf r + e) all ≡ slice f p (fieldsOf r)
+some-fields r f p e h = rw h (cut r f (min p (length (fieldsOf r))) (omega arith) ∙ ap (drop f) (up-to p (fieldsOf r) (leb p (length (fieldsOf r))) refl))
+
+pub no-fields-left : {A : Type 0} (f p e : ℕ) (xs : List A) → e ≡ min p (length xs) → e ≤ f → slice f p xs ≡ []
+no-fields-left f p e xs h l = drop-of-length-le (take p xs) {i = f} (rw (length-take p xs) (omega arith))
+
+pub all-fields : (r : Record) → slice 0 fieldCount (fieldsOf r) ≡ fieldsOf r
+all-fields r = take-all fieldCount (fieldsOf r) (let h = in-table r {s = spanOf r} refl in let m = past-is r {s = spanOf r} refl in omega arith)
 
 -- ---- at each entry
 

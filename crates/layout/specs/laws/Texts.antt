@@ -18,7 +18,7 @@ use Rattle.layout.specs.laws.Bytes.{and-left, and-right, same-true}
 use Rattle.layout.specs.declared.kinds.Fill.{Fill}
 use Rattle.layout.specs.declared.kinds.Fill.the-variants.{Number, Text, Fixed}
 
-so : (b : Bool) → T b → b ≡ true
+pub so : (b : Bool) → T b → b ≡ true
 so true t = refl
 so false t = absurd t
 
@@ -115,43 +115,7 @@ none-below k n b = go (decLt k n)
     go (no h) = omega arith
 
 kinds-filled : Below (λ n. Filled (kindOf n) (fillOf n)) 17
-kinds-filled = (
-  a-number refl,
-  (
-    a-number refl,
-    (
-      a-number refl,
-      (
-        a-number refl,
-        (
-          a-number refl,
-          (
-            a-number refl,
-            (
-              a-number refl,
-              (
-                a-number refl,
-                (
-                  its-text refl,
-                  (
-                    its-text refl,
-                    (
-                      its-text refl,
-                      (
-                        its-text refl,
-                        (a-string refl blanks-there, (a-string refl zeros-there, (a-string refl c-there, (a-string refl code-09-there, (a-string refl code-52-there, tt))))),
-                      ),
-                    ),
-                  ),
-                ),
-              ),
-            ),
-          ),
-        ),
-      ),
-    ),
-  ),
-)
+kinds-filled = (a-number refl, (a-number refl, (a-number refl, (a-number refl, (a-number refl, (a-number refl, (its-text refl, (its-text refl, (a-number refl, (a-number refl, (its-text refl, (its-text refl, (a-string refl blanks-there, (a-string refl zeros-there, (a-string refl c-there, (a-string refl code-09-there, (a-string refl code-52-there, tt)))))))))))))))))
 
 pub other-kind : (n : ℕ) → mark? n ≡ false → 17 ≤ n → kindOf n ≡ F
 other-kind n e h = rw e (List·getD-eq-default kinds F {n = n} h)

@@ -36,8 +36,8 @@ loop-again c =
     let s = l .before .before .args .s .now in
     rw add-one (
       omega arith,
-      below-more (l .loop .i) (l .loop .n) (c .digit-of .result) (l .loop .inv .1) (c .digit-of .ensures .1),
-      rw (c .digit-of .ensures .0) (sym (number-turn (l .loop .n) (l .loop .i) s (omega arith)) ∙ l .loop .inv .2),
+      below-more (l .loop .i) (l .loop .n) (c .worth .result) (l .loop .inv .1) (c .worth .ensures .1),
+      rw (c .worth .ensures .0) (sym (number-turn (l .loop .n) (l .loop .i) s (omega arith)) ∙ l .loop .inv .2),
     )
 
 returns : tie.Need-returns Inv-loop μ-loop

@@ -6,7 +6,8 @@ use native.Mathlib.Numerals.{add-one}
 use borrow.Author.Needs.{needs}
 use lib.ListN.{length, drop, drop-of-length-le}
 use Rattle.layout.specs.Record.{clean, allPrintable}
-use Rattle.layout.specs.laws.Bytes.{printable-turn, and-regroup}
+use Rattle.digits.specs.laws.Tests.{and-regroup}
+use Rattle.layout.specs.laws.Bytes.{printable-turn}
 use Rattle.layout.proofs.bytes.is_clean.Statement.{statement}
 use Rattle.layout.proofs.bytes.is_clean.Tie as tie
 

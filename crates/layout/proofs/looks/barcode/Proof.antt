@@ -9,7 +9,7 @@ returns : tie.Need-returns
 returns c =
     let at-test = c .before .before .before in
     c .and-then .ensures
-    ∙ rw (at-test .test .ensures, at-test .before .leading .ensures)
+    ∙ rw (at-test .test .ensures, at-test .before .all-digits .ensures)
     (one-then _ _ _ (c .before .test2 .ensures ∙ rw (c .before .before .currency-fits .ensures)))
 
 pub barcode-spec : {M : Type 1} → statement M

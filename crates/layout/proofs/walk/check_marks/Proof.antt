@@ -12,7 +12,7 @@ walk-requires : tie.Need-walk-requires
 walk-requires c κs =
     let start = c .before .before .before .before in
     let m = marks-in-table _ (c .before .span-of .ensures) in
-    (start .pre .0, (start .pre .1 .0, (start .pre .1 .1, omega arith, omega (arith, m))))
+    (start .pre .0, (start .pre .1 .0, ((start .pre .1 .1, omega arith, omega (arith, m)), record { each = λ e g l h q. cc })))
 
 returns : tie.Need-returns
 returns c =
@@ -26,7 +26,7 @@ walk-requires-2 c κs =
     let at-span = c .before .before .before .before .before in
     let start = at-span .before .before .before in
     let m = marks-in-table _ (at-span .span-of .ensures) in
-    (start .pre .0, (start .pre .1 .0, (start .pre .1 .1, omega arith, omega (arith, m))))
+    (start .pre .0, (start .pre .1 .0, ((start .pre .1 .1, omega arith, omega (arith, m)), record { each = λ e g l h q. cc })))
 
 returns-2 : tie.Need-returns-2
 returns-2 c =

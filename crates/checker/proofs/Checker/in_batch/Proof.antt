@@ -1,0 +1,20 @@
+-- `checker::Checker::in_batch` meets its contract: the line counts in the batch. Assumes nothing.
+use Rattle.checker.specs.laws.Bounds.{room}
+use borrow.Author.Needs.{needs}
+use Rattle.checker.proofs.Checker.in_batch.Statement.{statement}
+use Rattle.checker.proofs.Checker.in_batch.Tie as tie
+
+plus-requires : tie.Need-plus-requires
+plus-requires c κs = rw (c .counted .ensures) (room (c .before .before .before .before .before .pre .1) (c .before .before .before .before .before .args .which) _ .in-batch)
+
+returns : tie.Need-returns
+returns c = rw (c .plus .ensures, c .before .counted .ensures, c .before .before .phase-after .ensures)
+
+pub in-batch-spec : {M : Type 1} → statement M
+in-batch-spec =
+    tie.close
+    (tie.spec
+    (λ c κs. search needs)
+    (λ c κs. search needs)
+    plus-requires
+    returns)

@@ -1,0 +1,5 @@
+-- Laws on plain values, for the proofs of this crate's functions.
+mod Edges
+mod Fields
+mod Length
+mod Turns

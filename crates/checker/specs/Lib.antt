@@ -1,0 +1,8 @@
+pub mod Order
+pub mod Totals
+pub mod Line
+pub mod Machine
+pub mod File
+pub mod Calls
+pub mod Steps
+pub mod laws

@@ -1,0 +1,173 @@
+-- The rules of a line, in the paper's order. Assumes nothing.
+use mathlib.Core.Bool.{Bool, true, false, not, cond, _&&_, _||_}
+use mathlib.Core.List.{List, [], _∷_, _++_}
+use Prim.Native.Nat.{ℕ, suc, _+_}
+use lib.Dec.{leb, ltb, eqb}
+use lib.ListN.{length, take}
+use Rattle.answer.specs.Limits.{fileCents}
+use Rattle.answer.specs.Rules.{Rule, rule}
+use Rattle.digits.specs.Digits.{allDigits, place}
+use Rattle.digits.specs.Numbers.{numberOf, value}
+use Rattle.calendar.specs.Calendar.{numberFits, dateOf}
+use Rattle.calendar.specs.Due.{factorFits}
+use Rattle.boleto.specs.Strings.{factorDigits, centsDigits}
+use Rattle.boleto.specs.Rules.{generalFits}
+use Rattle.layout.specs.Table.{Field, part, bankField, batchField, typePlace, numberField, segmentPlace, segmentFields, fieldsOf, recordBytes, barcodeField, dueField, nominalField, discountField, fineField, boletoAmount, batchRecords, batchSum, fileBatches, fileRecords}
+use Rattle.layout.specs.Record.{rulesOf, byteRule}
+use Rattle.layout.specs.declared.Record.{Record}
+use Rattle.layout.specs.declared.Record.the-variants.{FileHeader, BatchHeader, SegmentA, SegmentB, SegmentJ, SegmentJ52, SegmentZ, BatchTrailer, FileTrailer}
+use Rattle.checker.specs.Order.{follows, readAs, ended}
+use Rattle.checker.specs.Totals.{paymentsOf}
+use Rattle.checker.specs.declared.order.Due.{Due}
+use Rattle.checker.specs.declared.order.Due.the-variants.{Line, Nothing}
+use Rattle.checker.specs.declared.Checker.{Checker}
+
+-- ---- what a line asks
+
+-- a field reads the number k
+abbrev pub reads : ℕ → Field → ℕ → List ℕ → Rule
+reads number f k rec = rule number (f .from) (numberFits (λ n. eqb n k) (numberOf (part f rec)))
+
+abbrev pub bank : Checker → List ℕ → Rule
+bank s rec = reads 7 bankField (s .bank) rec
+
+abbrev pub batchNumber : ℕ → List ℕ → Rule
+batchNumber k rec = reads 9 batchField k rec
+
+-- the ordinal of the batch that is open, or that a header opens
+abbrev pub ordinal : Checker → ℕ
+ordinal s = s .closed .batches + 1
+
+abbrev pub mostBatches : ℕ
+mostBatches = 70
+
+abbrev pub mostPayments : ℕ
+mostPayments = 10000
+
+-- the fields that lie from place a to place b
+unfoldable pub within : ℕ → ℕ → List Field → List Field
+within a b [] = []
+within a b (f ∷ fs) = cond (leb a (f .from) && leb (f .to) b) (f ∷ within a b fs) (within a b fs)
+
+-- those of a record behind a place, and those behind a place up to another
+abbrev pub behind : ℕ → Record → List Field
+behind p r = within (suc p) recordBytes (fieldsOf r)
+
+abbrev pub between : ℕ → ℕ → Record → List Field
+between p q r = within (suc p) q (fieldsOf r)
+
+-- ---- house rules of J
+
+abbrev pub cents : Field → List ℕ → ℕ
+cents f rec = value (part f rec)
+
+-- a factor other than 0 gives the due date
+abbrev pub dueFits : List ℕ → Bool
+dueFits rec = factorFits (value (factorDigits (part barcodeField rec))) (dateOf (value (part dueField rec)))
+
+-- cents other than 0 equal the nominal
+abbrev pub centsFit : List ℕ → Bool
+centsFit rec =
+    let coded = value (centsDigits (part barcodeField rec)) in
+    eqb coded 0 || eqb coded (cents nominalField rec)
+
+-- amount = nominal - discount + fine, over whole numbers
+abbrev pub amountFits : List ℕ → Bool
+amountFits rec = eqb (cents boletoAmount rec + cents discountField rec) (cents nominalField rec + cents fineField rec)
+
+unfoldable pub boletoRules : List ℕ → List Rule
+boletoRules rec =
+    rule 16 22 (generalFits (part barcodeField rec))
+    ∷ rule 17 23 (dueFits rec)
+    ∷ rule 18 27 (centsFit rec)
+    ∷ rule 19 (boletoAmount .from) (amountFits rec)
+    ∷ []
+
+abbrev pub houseRules : Record → List ℕ → List Rule
+houseRules FileHeader rec = []
+houseRules BatchHeader rec = []
+houseRules SegmentA rec = []
+houseRules SegmentB rec = []
+houseRules SegmentJ rec = boletoRules rec
+houseRules SegmentJ52 rec = []
+houseRules SegmentZ rec = []
+houseRules BatchTrailer rec = []
+houseRules FileTrailer rec = []
+
+-- ---- behind the type, by what the line is read as
+
+unfoldable pub detailRules : Record → Checker → List ℕ → List Rule
+detailRules r s rec =
+    bank s rec
+    ∷ batchNumber (ordinal s) rec
+    ∷ reads 10 numberField (s .current .records .0) rec
+    ∷ rulesOf (segmentFields r) (s .dir) rec
+    ++ rule 20 segmentPlace (leb (s .current .payments + paymentsOf r) mostPayments)
+    ∷ rulesOf (behind segmentPlace r) (s .dir) rec
+    ++ houseRules r rec
+
+unfoldable pub rulesAs : Record → Checker → List ℕ → List Rule
+rulesAs FileHeader s rec =
+    rule 8 (bankField .from) (allDigits (part bankField rec))
+    ∷ batchNumber 0 rec
+    ∷ rulesOf (behind typePlace FileHeader) (s .dir) rec
+rulesAs BatchHeader s rec =
+    rule 20 typePlace (leb (ordinal s) mostBatches)
+    ∷ bank s rec
+    ∷ batchNumber (ordinal s) rec
+    ∷ rulesOf (behind typePlace BatchHeader) (s .dir) rec
+rulesAs SegmentA s rec = detailRules SegmentA s rec
+rulesAs SegmentB s rec = detailRules SegmentB s rec
+rulesAs SegmentJ s rec = detailRules SegmentJ s rec
+rulesAs SegmentJ52 s rec = detailRules SegmentJ52 s rec
+rulesAs SegmentZ s rec = detailRules SegmentZ s rec
+rulesAs BatchTrailer s rec =
+    bank s rec
+    ∷ batchNumber (ordinal s) rec
+    ∷ rulesOf (between typePlace (batchRecords .to) BatchTrailer) (s .dir) rec
+    ++ reads 21 batchRecords (s .current .records .0 + 1) rec
+    ∷ rulesOf (behind (batchRecords .to) BatchTrailer) (s .dir) rec
+    ++ reads 22 batchSum (s .current .cents .0) rec
+    ∷ rule 23 (batchSum .from) (ltb (s .closed .cents .0 + s .current .cents .0) fileCents)
+    ∷ []
+rulesAs FileTrailer s rec =
+    bank s rec
+    ∷ batchNumber 9999 rec
+    ∷ rulesOf (between typePlace (fileBatches .to) FileTrailer) (s .dir) rec
+    ++ reads 21 fileBatches (s .closed .batches) rec
+    ∷ rulesOf (between (fileBatches .to) (fileRecords .to) FileTrailer) (s .dir) rec
+    ++ reads 21 fileRecords (s .closed .records .0 + 1) rec
+    ∷ rulesOf (behind (fileRecords .to) FileTrailer) (s .dir) rec
+
+-- ---- a line
+
+-- 240 bytes, CR and LF
+abbrev pub lineBytes : ℕ
+lineBytes = 242
+
+abbrev pub recordIn : List ℕ → List ℕ
+recordIn line = take recordBytes line
+
+abbrev pub lineIs : Checker → List ℕ → Due
+lineIs s rec = readAs (place typePlace rec) (place segmentPlace rec) (follows (s .phase) (s .dir) (s .batch))
+
+abbrev pub found : Due → Bool
+found (Line r) = true
+found Nothing = false
+
+abbrev pub dueRules : Due → Checker → List ℕ → List Rule
+dueRules (Line r) s rec = rulesAs r s rec
+dueRules Nothing s rec = []
+
+unfoldable pub typeRules : Checker → List ℕ → List Rule
+typeRules s rec = rule 6 typePlace (found (lineIs s rec)) ∷ dueRules (lineIs s rec) s rec
+
+unfoldable pub lineRules : Checker → List ℕ → List Rule
+lineRules s line =
+    byteRule (recordIn line)
+    ∷ rule 5 241 (eqb (place 241 line) 13)
+    ∷ rule 5 242 (eqb (place 242 line) 10)
+    ∷ typeRules s (recordIn line)
+
+unfoldable pub rulesOfLine : Checker → List ℕ → List Rule
+rulesOfLine s line = rule 3 0 (not (ended (s .phase))) ∷ rule 1 0 (eqb (length line) lineBytes) ∷ lineRules s line

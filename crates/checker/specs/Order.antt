@@ -1,0 +1,83 @@
+-- The order of lines: which may follow, and what a line is read as. Assumes nothing.
+use mathlib.Core.Bool.{Bool, true, false, not, cond, _&&_, _||_}
+use mathlib.Core.List.{List, [], _∷_, _++_}
+use Prim.Native.Nat.{ℕ}
+use lib.Dec.{eqb}
+use lib.ListN.{take, drop}
+use Rattle.layout.specs.Table.{typeOf}
+use Rattle.layout.specs.declared.Direction.{Direction}
+use Rattle.layout.specs.declared.Direction.the-variants.{Remittance, Return}
+use Rattle.layout.specs.declared.Record.{Record}
+use Rattle.layout.specs.declared.Record.the-variants.{FileHeader, BatchHeader, SegmentA, SegmentB, SegmentJ, SegmentJ52, SegmentZ, BatchTrailer, FileTrailer}
+use Rattle.layout.specs.declared.pairs.Batch.{Batch}
+use Rattle.layout.specs.declared.pairs.Batch.the-variants.{Credit, Boleto, Unknown}
+use Rattle.checker.specs.declared.order.Phase.{Phase}
+use Rattle.checker.specs.declared.order.Phase.the-variants.{Start, Headed, Opened, Begun, Paid, Noted, Closed, Ended}
+use Rattle.checker.specs.declared.order.Due.{Due}
+use Rattle.checker.specs.declared.order.Due.the-variants.{Line, Nothing}
+
+-- the records of a payment
+abbrev pub payment : Batch → List Record
+payment Credit = SegmentA ∷ SegmentB ∷ []
+payment Boleto = SegmentJ ∷ SegmentJ52 ∷ []
+payment Unknown = []
+
+abbrev pub first : Batch → List Record
+first b = take 1 (payment b)
+
+abbrev pub second : Batch → List Record
+second b = take 1 (drop 1 (payment b))
+
+-- the lines that may follow
+abbrev pub follows : Phase → Direction → Batch → List Record
+follows Start d b = FileHeader ∷ []
+follows Headed d b = BatchHeader ∷ []
+follows Opened d b = first b
+follows Begun d b = second b
+follows Paid Remittance b = first b ++ BatchTrailer ∷ []
+follows Paid Return b = SegmentZ ∷ first b ++ BatchTrailer ∷ []
+follows Noted d b = first b ++ BatchTrailer ∷ []
+follows Closed d b = BatchHeader ∷ FileTrailer ∷ []
+follows Ended d b = []
+
+-- the phase behind a line
+abbrev pub after : Record → Phase
+after FileHeader = Headed
+after BatchHeader = Opened
+after SegmentA = Begun
+after SegmentB = Paid
+after SegmentJ = Begun
+after SegmentJ52 = Paid
+after SegmentZ = Noted
+after BatchTrailer = Closed
+after FileTrailer = Ended
+
+abbrev pub ended : Phase → Bool
+ended Start = false
+ended Headed = false
+ended Opened = false
+ended Begun = false
+ended Paid = false
+ended Noted = false
+ended Closed = false
+ended Ended = true
+
+-- Z may be left out: it alone is known by its letter, 90; every other detail by its place in the payment
+abbrev pub optional : Record → Bool
+optional FileHeader = false
+optional BatchHeader = false
+optional SegmentA = false
+optional SegmentB = false
+optional SegmentJ = false
+optional SegmentJ52 = false
+optional SegmentZ = true
+optional BatchTrailer = false
+optional FileTrailer = false
+
+abbrev pub suits : ℕ → ℕ → Record → Bool
+suits type segment r = (not (optional r) || eqb segment 90) && eqb type (typeOf r)
+
+-- what a line of this type and segment is read as, of the lines that may follow
+abbrev pub readAs : ℕ → ℕ → List Record → Due
+readAs type segment [] = Nothing
+readAs type segment (r ∷ rs) = cond (suits type segment r) (Line r) (readAs type segment rs)

@@ -1,0 +1,139 @@
+-- Every rule of a line names one of the paper's numbers, from 1 to 23, and no line. Assumes nothing.
+use mathlib.Core.Path.{_≡_, refl, subst}
+use mathlib.Core.Bool.{Bool, _&&_}
+use mathlib.Core.List.{List, [], _∷_, _++_}
+use Prim.Native.Nat.{ℕ, _≤_}
+use lib.Dec.{T, leb, leb→le}
+use Rattle.answer.specs.Rules.{Rule, rule, noLine, Broken}
+use Rattle.answer.specs.declared.Refusal.{Refusal}
+use Rattle.digits.specs.laws.Tests.{both}
+use Rattle.layout.specs.Table.{Kind, N, Id, T as Text, F, D, Time, K, O, Zeros, Exact, OneOf, Service, Form, Barcode, RecordType, Segment, Field, segmentFields, segmentPlace, typePlace, batchRecords, fileBatches, fileRecords}
+use Rattle.layout.specs.Kinds.{Part, means, blankIn}
+use Rattle.layout.specs.Record.{rulesOf, partOf}
+use Rattle.layout.specs.declared.Direction.{Direction}
+use Rattle.layout.specs.declared.Direction.the-variants.{Remittance, Return}
+use Rattle.layout.specs.declared.Record.{Record}
+use Rattle.layout.specs.declared.Record.the-variants.{FileHeader, BatchHeader, SegmentA, SegmentB, SegmentJ, SegmentJ52, SegmentZ, BatchTrailer, FileTrailer}
+use Rattle.checker.specs.Line.{behind, between, houseRules, boletoRules, detailRules, rulesAs, dueRules, lineIs, typeRules, lineRules, rulesOfLine, recordIn}
+use Rattle.checker.specs.declared.order.Due.{Due}
+use Rattle.checker.specs.declared.order.Due.the-variants.{Line, Nothing}
+use Rattle.checker.specs.declared.Checker.{Checker}
+
+-- the highest number that a line is refused with
+abbrev pub lastNumber : ℕ
+lastNumber = 23
+
+abbrev pub tabled : ℕ → Bool
+tabled n = leb 1 n && leb n lastNumber
+
+-- each of these rules names such a number, and no line
+pub data Listed : List Rule → Type 0 where
+  none : Listed []
+  more : {n p : ℕ} {kept : Bool} {rs : List Rule} → T (tabled n) → Listed rs → Listed (rule n p kept ∷ rs)
+
+join : {xs ys : List Rule} → Listed xs → Listed ys → Listed (xs ++ ys)
+join none b = b
+join (more t a) b = more t (join a b)
+
+-- ---- the rules of a line are listed
+
+one : {n p : ℕ} {kept : Bool} → T (tabled n) → Listed (rule n p kept ∷ [])
+one t = more t none
+
+blanks : (d : Direction) (p : Part) → Listed (blankIn d p)
+blanks Remittance p = one tt
+blanks Return p = none
+
+kind : (k : Kind) (p : Part) → Listed (means k .rules p)
+kind N p = one tt
+kind Id p = one tt
+kind Text p = one tt
+kind F p = none
+kind D p = one tt
+kind Time p = one tt
+kind K p = one tt
+kind O p = blanks (p .direction) p
+kind Zeros p = one tt
+kind (Exact bs) p = one tt
+kind (OneOf domain) p = one tt
+kind Service p = one tt
+kind Form p = one tt
+kind Barcode p = more tt (one tt)
+kind (RecordType b) p = one tt
+kind (Segment b) p = one tt
+
+fields : (fs : List Field) (d : Direction) (rec : List ℕ) → Listed (rulesOf fs d rec)
+unfolding rulesOf
+fields [] d rec = none
+fields (f ∷ fs) d rec = join (kind (f .kind) (partOf f d rec)) (fields fs d rec)
+
+house : (r : Record) (rec : List ℕ) → Listed (houseRules r rec)
+unfolding boletoRules
+house FileHeader rec = none
+house BatchHeader rec = none
+house SegmentA rec = none
+house SegmentB rec = none
+house SegmentJ rec = more tt (more tt (more tt (one tt)))
+house SegmentJ52 rec = none
+house SegmentZ rec = none
+house BatchTrailer rec = none
+house FileTrailer rec = none
+
+detail : (r : Record) (s : Checker) (rec : List ℕ) → Listed (detailRules r s rec)
+unfolding detailRules
+detail r s rec =
+    join
+    (join (more tt (more tt (more tt (fields (segmentFields r) (s .dir) rec)))) (more tt (fields (behind segmentPlace r) (s .dir) rec)))
+    (house r rec)
+
+read : (r : Record) (s : Checker) (rec : List ℕ) → Listed (rulesAs r s rec)
+unfolding rulesAs
+read FileHeader s rec = more tt (more tt (fields (behind typePlace FileHeader) (s .dir) rec))
+read BatchHeader s rec = more tt (more tt (more tt (fields (behind typePlace BatchHeader) (s .dir) rec)))
+read SegmentA s rec = detail SegmentA s rec
+read SegmentB s rec = detail SegmentB s rec
+read SegmentJ s rec = detail SegmentJ s rec
+read SegmentJ52 s rec = detail SegmentJ52 s rec
+read SegmentZ s rec = detail SegmentZ s rec
+read BatchTrailer s rec =
+    join
+    (join
+    (more tt (more tt (fields (between typePlace (batchRecords .to) BatchTrailer) (s .dir) rec)))
+    (more tt (fields (behind (batchRecords .to) BatchTrailer) (s .dir) rec)))
+    (more tt (one tt))
+read FileTrailer s rec =
+    join
+    (join
+    (more tt (more tt (fields (between typePlace (fileBatches .to) FileTrailer) (s .dir) rec)))
+    (more tt (fields (between (fileBatches .to) (fileRecords .to) FileTrailer) (s .dir) rec)))
+    (more tt (fields (behind (fileRecords .to) FileTrailer) (s .dir) rec))
+
+due : (d : Due) (s : Checker) (rec : List ℕ) → Listed (dueRules d s rec)
+due (Line r) s rec = read r s rec
+due Nothing s rec = none
+
+pub line-listed : (s : Checker) (line : List ℕ) → Listed (rulesOfLine s line)
+unfolding rulesOfLine lineRules typeRules
+line-listed s line = more tt (more tt (more tt (more tt (more tt (more tt (due (lineIs s (recordIn line)) s (recordIn line)))))))
+
+-- ---- what that says of a broken one
+
+pub record InTable (r : Refusal) : Type 0 where
+  pub on-no-line : r .line ≡ noLine
+  pub low : 1 ≤ r .number
+  pub high : r .number ≤ lastNumber
+
+in-front : {r : Rule} {rs : List Rule} → Listed (r ∷ rs) → InTable (r .refused)
+in-front (more {n} t a) =
+    let k = both (leb 1 n) (leb n lastNumber) t in
+    record { on-no-line = refl; low = leb→le 1 n (k .0); high = leb→le n lastNumber (k .1) }
+
+without-front : {r : Rule} {rs : List Rule} → Listed (r ∷ rs) → Listed rs
+without-front (more t a) = a
+
+inside : (xs : List Rule) (r : Rule) (ys : List Rule) → Listed (xs ++ r ∷ ys) → InTable (r .refused)
+inside [] r ys a = in-front a
+inside (x ∷ xs) r ys a = inside xs r ys (without-front a)
+
+pub broken-listed : {rs : List Rule} {r : Refusal} → Listed rs → Broken rs r → InTable r
+broken-listed a b = inside (b .earlier) _ (b .later) (subst Listed (b .are) a)

@@ -1,0 +1,160 @@
+-- What the answer to a line says, and what an accepted line does to the state. Assumes nothing.
+use mathlib.Core.Path.{_≡_, refl, sym, ap, _∙_, subst}
+use mathlib.Core.Logic.{_↔_}
+use mathlib.Core.Bool.{Bool, true, false, cond}
+use mathlib.Core.List.{List, [], _∷_, List·Memᴰ·head, List·Memᴰ·tail}
+use Prim.Native.Nat.{ℕ}
+use native.Mathlib.Omega.{arith}
+use borrow.Author.Tests.{eqb-true}
+use Rattle.answer.specs.Rules.{noLine, refusal, refusedAs, firstBroken, AllKept, Broken, onLine}
+use Rattle.answer.specs.laws.Order.{kept-accepted, accepted-kept, broken-refused, refused-broken}
+use Rattle.answer.specs.declared.LineNo.{LineNo}
+use Rattle.answer.specs.declared.Refusal.{Refusal}
+use Rattle.answer.specs.declared.Answer.{Answer}
+use Rattle.answer.specs.declared.Answer.the-variants.{Accepted, Refused}
+use Rattle.layout.specs.declared.Record.{Record}
+use Rattle.layout.specs.declared.Record.the-variants.{FileHeader, BatchHeader, SegmentA, SegmentB, SegmentJ, SegmentJ52, SegmentZ, BatchTrailer, FileTrailer}
+use Rattle.checker.specs.Order.{after, suits, readAs}
+use Rattle.checker.specs.Line.{recordIn, lineIs, found, dueRules, typeRules, lineRules, rulesOfLine}
+use Rattle.checker.specs.Machine.{lineOf, next, moved, sound, stepped, answerTo, stepOf}
+use Rattle.checker.specs.Calls.{Breaks, Among, Edge}
+use Rattle.checker.specs.declared.order.Due.{Due}
+use Rattle.checker.specs.declared.order.Due.the-variants.{Line, Nothing}
+use Rattle.checker.specs.declared.Checker.{Checker}
+use Rattle.checker.specs.declared.Stepped.{Stepped}
+use Rattle.checker.specs.laws.Listed.{line-listed, broken-listed}
+
+never : {A : Type 0} {r : Refusal} → Accepted ≡ Refused r → A
+never e = absurd (let z : _≡_ {A = ℕ} 0 1 = cc in omega arith)
+
+-- ---- the answer
+
+-- an answer on a line is accepted, or refused, as the answer is
+off-line-accepted : (n : LineNo) (a : Answer) → onLine n a ≡ Accepted → a ≡ Accepted
+off-line-accepted n Accepted e = refl
+off-line-accepted n (Refused r) e = never (sym e)
+
+record OffLine (n : LineNo) (a : Answer) (r : Refusal) : Type 0 where
+  found : Refusal
+  was : a ≡ Refused found
+  same : r ≡ refusal (found .number) n (found .place)
+
+off-line-refused : (n : LineNo) (a : Answer) (r : Refusal) → onLine n a ≡ Refused r → OffLine n a r
+off-line-refused n Accepted r e = never e
+off-line-refused n (Refused x) r e = record { found = x; was = refl; same = cc }
+
+answer-on-line : (a : Answer) (s : Checker) (line : List ℕ) → answerTo a s line .answer ≡ onLine (lineOf s) a
+answer-on-line Accepted s line = refl
+answer-on-line (Refused r) s line = refl
+
+-- a sound state answers by the line's rules
+module _ (s : Checker) (line : List ℕ) (ok : sound s ≡ true) where
+  pub by-rules : stepOf s line ≡ answerTo (firstBroken (rulesOfLine s line)) s line
+  unfolding stepOf
+  by-rules = rw ok
+
+  answered : stepOf s line .answer ≡ onLine (lineOf s) (firstBroken (rulesOfLine s line))
+  answered = ap (λ (x : Stepped). x .answer) by-rules ∙ answer-on-line (firstBroken (rulesOfLine s line)) s line
+
+  -- accepted exactly if every rule is kept
+  pub line-accepted : stepOf s line .answer ≡ Accepted ↔ AllKept (rulesOfLine s line)
+  line-accepted = (
+    λ e. accepted-kept (rulesOfLine s line) (off-line-accepted (lineOf s) (firstBroken (rulesOfLine s line)) (sym answered ∙ e)),
+    λ k. answered ∙ ap (onLine (lineOf s)) (kept-accepted (rulesOfLine s line) k),
+  )
+
+  refused-breaks : (r : Refusal) → stepOf s line .answer ≡ Refused r → Breaks s line r
+  refused-breaks r e =
+      let o = off-line-refused (lineOf s) (firstBroken (rulesOfLine s line)) r (sym answered ∙ e) in
+      let b = refused-broken (rulesOfLine s line) (o .found) (o .was) in
+      let t = broken-listed (line-listed s line) b in
+      let back = sym (o .same) in
+      let same : o .found ≡ refusal (r .number) noLine (r .place) = λ i. record { number = back i .number; line = t .on-no-line i; place = back i .place } in
+      record { broken = subst (Broken (rulesOfLine s line)) same b; numbered = ap (λ (x : Refusal). x .line) (o .same) }
+
+  breaks-refused : (r : Refusal) → Breaks s line r → stepOf s line .answer ≡ Refused r
+  breaks-refused r b =
+      answered
+      ∙ ap (onLine (lineOf s)) (broken-refused (rulesOfLine s line) _ (b .broken))
+      ∙ ap (λ (n : LineNo). Refused (refusal (r .number) n (r .place))) (sym (b .numbered))
+
+  -- refused exactly if that rule is broken and every earlier one is kept, on the line that is next
+  pub line-refused : (r : Refusal) → stepOf s line .answer ≡ Refused r ↔ Breaks s line r
+  line-refused r = (refused-breaks r, breaks-refused r)
+
+-- ---- the state
+
+module _ (s : Checker) (line : List ℕ) where
+  -- a refused line leaves it, whether it is sound or not
+  pub refused-leaves : (r : Refusal) → stepOf s line .answer ≡ Refused r → stepOf s line .state ≡ s
+  unfolding stepOf
+  refused-leaves r e = go (sound s) (firstBroken (rulesOfLine s line)) e
+    where
+      go : (b : Bool) (a : Answer) → cond b (answerTo a s line) (stepped s (refusedAs 51 0)) .answer ≡ Refused r
+          → cond b (answerTo a s line) (stepped s (refusedAs 51 0)) .state ≡ s
+      go true Accepted e = never e
+      go true (Refused x) e = refl
+      go false a e = refl
+
+  -- a state that accepts a line is sound
+  pub accepted-sound : stepOf s line .answer ≡ Accepted → sound s ≡ true
+  unfolding stepOf
+  accepted-sound e = go (sound s) refl e
+    where
+      go : (b : Bool) → sound s ≡ b → cond b (answerTo (firstBroken (rulesOfLine s line)) s line) (stepped s (refusedAs 51 0)) .answer ≡ Accepted → sound s ≡ true
+      go true q e = q
+      go false q e = never (sym e)
+
+-- what a line is read as is one of the records that may follow
+read-among : (type segment : ℕ) (rs : List Record) (r : Record) → readAs type segment rs ≡ Line r → Among r rs
+read-among type segment [] r e = absurd (let z : _≡_ {A = ℕ} 0 1 = cc in omega arith)
+read-among type segment (x ∷ rs) r e = go (suits type segment x) (read-among type segment rs r) e
+  where
+    go : (b : Bool) → (readAs type segment rs ≡ Line r → Among r rs) → cond b (Line x) (readAs type segment rs) ≡ Line r → Among r (x ∷ rs)
+    go true later e = List·Memᴰ·head {x = x} (cc)
+    go false later e = List·Memᴰ·tail (later e)
+
+next-phase : (r : Record) (s : Checker) (rec : List ℕ) → next r s rec .phase ≡ after r
+next-phase FileHeader s rec = refl
+next-phase BatchHeader s rec = refl
+next-phase SegmentA s rec = refl
+next-phase SegmentB s rec = refl
+next-phase SegmentJ s rec = refl
+next-phase SegmentJ52 s rec = refl
+next-phase SegmentZ s rec = refl
+next-phase BatchTrailer s rec = refl
+next-phase FileTrailer s rec = refl
+
+-- an accepted line moves the state along its edge
+pub accepted-moves : (s : Checker) (line : List ℕ) → stepOf s line .answer ≡ Accepted → Edge s line
+unfolding AllKept rulesOfLine lineRules typeRules
+accepted-moves s line e = go (lineIs s rec) refl (typed .0) (typed .1)
+  where
+    rec : List ℕ
+    rec = recordIn line
+
+    ok : sound s ≡ true
+    ok = accepted-sound s line e
+
+    kept : AllKept (rulesOfLine s line)
+    kept = line-accepted s line ok .0 e
+
+    typed : AllKept (typeRules s rec)
+    typed = kept .1 .1 .1 .1 .1
+
+    go : (d : Due) → lineIs s rec ≡ d → found d ≡ true → AllKept (dueRules d s rec) → Edge s line
+    go (Line r) q f k =
+        let state : stepOf s line .state ≡ next r s rec =
+        ap (λ (x : Stepped). x .state) (by-rules s line ok)
+        ∙ ap (λ (a : Answer). answerTo a s line .state) (kept-accepted (rulesOfLine s line) kept)
+        ∙ ap (λ (d : Due). moved d s rec) q in
+        record {
+          long = eqb-true _ _ (kept .1 .0);
+          by = r;
+          read = q;
+          may-follow = read-among _ _ _ r q;
+          rules-kept = k;
+          moves = state;
+          to = ap (λ (x : Checker). x .phase) state ∙ next-phase r s rec;
+        }
+    go Nothing q f k = absurd (let z : _≡_ {A = ℕ} 0 1 = cc in omega arith)

@@ -1,0 +1,80 @@
+// The house rules of J: general check, due date, cents and amount.
+use super::places;
+use super::totals::amount;
+use answer::Answer;
+use calendar::Date;
+use layout::Record;
+ghost use mathlib.Core.Path.{_≡_};
+ghost use lib.ListN.{length};
+ghost use Rattle.answer.specs.Rules.{firstBroken};
+ghost use Rattle.layout.specs.Table.{recordBytes};
+ghost use Rattle.checker.specs.Line.{dueFits, centsFit, amountFits, boletoRules, houseRules};
+
+// The paper's numbers.
+const GENERAL_CHECK: u8 = 16;
+
+const DUE_DATE: u8 = 17;
+
+const CENTS: u8 = 18;
+
+const AMOUNT: u8 = 19;
+
+// A factor other than 0 gives the due date.
+fn due_fits(rec: &[u8]) -> bool
+    requires { ⌜ length (now rec) ≡ recordBytes ⌝ }
+    ensures { λ r. ⌜ r ≡ dueFits (now (rec .entry)) ⌝ }
+{
+    let bar = &rec[places::BARCODE_FROM - 1..places::BARCODE_TO];
+    let factor = digits::value(&bar[places::FACTOR_FROM - 1..places::FACTOR_TO]);
+    let due = Date::of(digits::value(&rec[places::DUE_FROM - 1..places::DUE_TO]));
+    due.fits_factor(factor)
+}
+
+// Cents other than 0 equal the nominal.
+fn cents_fit(rec: &[u8]) -> bool
+    requires { ⌜ length (now rec) ≡ recordBytes ⌝ }
+    ensures { λ r. ⌜ r ≡ centsFit (now (rec .entry)) ⌝ }
+{
+    let bar = &rec[places::BARCODE_FROM - 1..places::BARCODE_TO];
+    let cents = digits::value(&bar[places::CENTS_FROM - 1..places::CENTS_TO]);
+    (cents == 0) | (cents == amount(rec, places::NOMINAL))
+}
+
+// The amount is nominal less discount plus fine.
+fn amount_fits(rec: &[u8]) -> bool
+    requires { ⌜ length (now rec) ≡ recordBytes ⌝ }
+    ensures { λ r. ⌜ r ≡ amountFits (now (rec .entry)) ⌝ }
+{
+    let paid = amount(rec, places::BOLETO_AMOUNT) + amount(rec, places::DISCOUNT);
+    paid == amount(rec, places::NOMINAL) + amount(rec, places::FINE)
+}
+
+fn check_boleto(rec: &[u8]) -> Answer
+    requires { ⌜ length (now rec) ≡ recordBytes ⌝ }
+    ensures { λ r. ⌜ r ≡ firstBroken (boletoRules (now (rec .entry))) ⌝ }
+{
+    let general = boleto::is_sealed(&rec[places::BARCODE_FROM - 1..places::BARCODE_TO]);
+    let check = Answer::test(GENERAL_CHECK, places::GENERAL_CHECK, general);
+    let due = Answer::test(DUE_DATE, places::FACTOR, due_fits(rec));
+    let cents = Answer::test(CENTS, places::CENTS, cents_fit(rec));
+    let amount = Answer::test(AMOUNT, places::BOLETO_AMOUNT, amount_fits(rec));
+    check.and_then(due.and_then(cents.and_then(amount)))
+}
+
+// Behind the fields: only J has such rules.
+pub(crate) fn check_house(which: Record, rec: &[u8]) -> Answer
+    requires { ⌜ length (now rec) ≡ recordBytes ⌝ }
+    ensures { λ r. ⌜ r ≡ firstBroken (houseRules which (now (rec .entry))) ⌝ }
+{
+    match which {
+        Record::FileHeader => Answer::Accepted,
+        Record::BatchHeader => Answer::Accepted,
+        Record::SegmentA => Answer::Accepted,
+        Record::SegmentB => Answer::Accepted,
+        Record::SegmentJ => check_boleto(rec),
+        Record::SegmentJ52 => Answer::Accepted,
+        Record::SegmentZ => Answer::Accepted,
+        Record::BatchTrailer => Answer::Accepted,
+        Record::FileTrailer => Answer::Accepted,
+    }
+}

@@ -1,0 +1,106 @@
+// Many lines, the end of the input, and a whole file.
+use super::Checker;
+use super::LINE_BYTES;
+use super::Stepped;
+use super::limits::IMPOSSIBLE;
+use super::order;
+use super::totals::Totals;
+use answer::Answer;
+use answer::LineNo;
+use answer::Refusal;
+ghost use mathlib.Core.Path.{_≡_};
+ghost use Prim.Native.Nat.{_+_, _≤_, min};
+ghost use Rattle.checker.specs.Line.{lineBytes};
+ghost use Rattle.checker.specs.File.{run, endOf, finish, checkFile};
+
+// What is in an accepted file, or the first refusal.
+pub enum Outcome {
+    Accepted(Totals),
+    Refused(Refusal),
+}
+
+// The paper's number for input that ends before a file trailer.
+const UNFINISHED: u8 = 2;
+
+// Where a part of at most one line ends.
+fn part_end(at: usize, len: usize) -> usize
+    requires { ⌜ at ≤ len ⌝ }
+    ensures { λ r. ⌜ r ≡ min (at + lineBytes) len ⌝ }
+{
+    if len - at < LINE_BYTES {
+        len
+    } else {
+        at + LINE_BYTES
+    }
+}
+
+impl Checker {
+    // Many lines, up to the first refusal. The last may be cut short, which refuses it.
+    pub fn run(self, part: &[u8]) -> Stepped
+        ensures { λ r. ⌜ r ≡ run self (now (part .entry)) ⌝ }
+    {
+        let mut state = self;
+        let mut at = 0;
+        while at < part.len() {
+            let end = part_end(at, part.len());
+            let line = &part[at..end];
+            let stepped = state.step(line);
+            let answer = stepped.answer;
+            match answer {
+                Answer::Accepted => {}
+                Answer::Refused(_) => {
+                    return stepped;
+                }
+            }
+            let next = stepped.state;
+            state = next;
+            at = end;
+        }
+        Stepped {
+            state,
+            answer: Answer::Accepted,
+        }
+    }
+
+    // The end, declared: it goes by the state alone.
+    fn end(self) -> Outcome
+        ensures { λ r. ⌜ r ≡ endOf self ⌝ }
+    {
+        let phase = self.phase;
+        let closed = self.closed;
+        if !self.is_sound() {
+            return Outcome::Refused(Refusal {
+                number: IMPOSSIBLE,
+                line: LineNo(0),
+                place: 0,
+            });
+        }
+        if order::is_ended(phase) {
+            return Outcome::Accepted(closed);
+        }
+        Outcome::Refused(Refusal {
+            number: UNFINISHED,
+            line: self.line_no(),
+            place: 0,
+        })
+    }
+
+    // The end of the input, with the bytes that are left of it.
+    pub fn finish(self, rest: &[u8]) -> Outcome
+        ensures { λ r. ⌜ r ≡ finish self (now (rest .entry)) ⌝ }
+    {
+        let stepped = self.run(rest);
+        let state = stepped.state;
+        let answer = stepped.answer;
+        match answer {
+            Answer::Accepted => state.end(),
+            Answer::Refused(r) => Outcome::Refused(r),
+        }
+    }
+}
+
+pub fn check_file(file: &[u8]) -> Outcome
+    ensures { λ r. ⌜ r ≡ checkFile (now (file .entry)) ⌝ }
+{
+    Checker::start().finish(file)
+}

@@ -1,0 +1,39 @@
+// Limits of a file, and the states that no run produces.
+use super::Checker;
+ghost use mathlib.Core.Path.{_≡_};
+ghost use Rattle.checker.specs.Machine.{sound};
+
+pub(crate) const MOST_BATCHES: u64 = 70;
+
+// Of a batch.
+pub(crate) const MOST_PAYMENTS: u64 = 10000;
+
+// What no run passes: a payment has at most three records, and an amount 15 digits.
+const BATCH_RECORDS: u64 = 30001;
+
+const BATCH_CENTS: u64 = 10000000000000000000;
+
+const FILE_RECORDS: u64 = 2100142;
+
+const FILE_PAYMENTS: u64 = 700000;
+
+const FILE_CENTS: u64 = 1000000000000000000;
+
+// The paper's number for a call out of turn; here for a state that no run produces.
+pub(crate) const IMPOSSIBLE: u8 = 51;
+
+impl Checker {
+    // With these bounds no sum of a line can wrap.
+    pub(crate) fn is_sound(self) -> bool
+        ensures { λ r. ⌜ r ≡ sound self ⌝ }
+    {
+        (self.closed.batches <= MOST_BATCHES)
+            & ((self.closed.records.0 <= FILE_RECORDS)
+                & ((self.closed.payments <= FILE_PAYMENTS)
+                    & ((self.closed.cents.0 < FILE_CENTS)
+                        & ((self.current.batches <= 1)
+                            & ((self.current.records.0 <= BATCH_RECORDS)
+                                & ((self.current.payments <= MOST_PAYMENTS)
+                                    & (self.current.cents.0 <= BATCH_CENTS)))))))
+    }
+}

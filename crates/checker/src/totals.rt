@@ -1,0 +1,119 @@
+// What lines count: batches, records, payments and cents.
+use super::places;
+use answer::Cents;
+use answer::RecordCount;
+use layout::Record;
+ghost use mathlib.Core.Path.{_≡_};
+ghost use Prim.Native.Nat.{_+_, _-_, _≤_, _<_, _^_};
+ghost use lib.ListN.{length, take, drop};
+ghost use Rattle.digits.specs.Numbers.{value};
+ghost use Rattle.layout.specs.Table.{recordBytes};
+ghost use Rattle.checker.specs.Totals.{totals, add, batchesOf, paymentsOf, centsOf, counts, FitSum};
+ghost use Rattle.checker.specs.Steps.{amountDigits};
+
+pub struct Totals {
+    pub batches: u64,
+    pub records: RecordCount,
+    pub payments: u64,
+    pub cents: Cents,
+}
+
+const AMOUNT_DIGITS: usize = 15;
+
+// An amount, from this place on.
+pub(crate) fn amount(rec: &[u8], place: usize) -> u64
+    requires { ⌜ length (now rec) ≡ recordBytes ⌝ }
+    requires { ⌜ (1 ≤ place) × (place + amountDigits ≤ recordBytes) ⌝ }
+    ensures { λ r. ⌜ (r ≡ value (take amountDigits (drop (place - 1) (now (rec .entry))))) × (r < 10 ^ amountDigits) ⌝ }
+{
+    digits::value(&rec[place - 1..place - 1 + AMOUNT_DIGITS])
+}
+
+impl Totals {
+    pub(crate) fn of(batches: u64, records: u64, payments: u64, cents: u64) -> Totals
+        ensures { λ r. ⌜ r ≡ totals batches records payments cents ⌝ }
+    {
+        Totals {
+            batches,
+            records: RecordCount(records),
+            payments,
+            cents: Cents(cents),
+        }
+    }
+
+    pub(crate) fn plus(self, more: Totals) -> Totals
+        requires { ⌜ FitSum self more ⌝ }
+        ensures { λ r. ⌜ r ≡ add self more ⌝ }
+    {
+        Totals::of(
+            self.batches + more.batches,
+            self.records.0 + more.records.0,
+            self.payments + more.payments,
+            self.cents.0 + more.cents.0,
+        )
+    }
+}
+
+fn batches_of(which: Record) -> u64
+    ensures { λ r. ⌜ r ≡ batchesOf which ⌝ }
+{
+    match which {
+        Record::FileHeader => 0,
+        Record::BatchHeader => 1,
+        Record::SegmentA => 0,
+        Record::SegmentB => 0,
+        Record::SegmentJ => 0,
+        Record::SegmentJ52 => 0,
+        Record::SegmentZ => 0,
+        Record::BatchTrailer => 0,
+        Record::FileTrailer => 0,
+    }
+}
+
+// The payments that a line begins.
+pub(crate) fn payments_of(which: Record) -> u64
+    ensures { λ r. ⌜ (r ≡ paymentsOf which) × (r ≤ 1) ⌝ }
+{
+    match which {
+        Record::FileHeader => 0,
+        Record::BatchHeader => 0,
+        Record::SegmentA => 1,
+        Record::SegmentB => 0,
+        Record::SegmentJ => 1,
+        Record::SegmentJ52 => 0,
+        Record::SegmentZ => 0,
+        Record::BatchTrailer => 0,
+        Record::FileTrailer => 0,
+    }
+}
+
+// The amount of a payment stands in its first record.
+fn cents_of(which: Record, rec: &[u8]) -> u64
+    requires { ⌜ length (now rec) ≡ recordBytes ⌝ }
+    ensures { λ r. ⌜ r ≡ centsOf which (now (rec .entry)) ⌝ }
+{
+    match which {
+        Record::FileHeader => 0,
+        Record::BatchHeader => 0,
+        Record::SegmentA => amount(rec, places::CREDIT_AMOUNT),
+        Record::SegmentB => 0,
+        Record::SegmentJ => amount(rec, places::BOLETO_AMOUNT),
+        Record::SegmentJ52 => 0,
+        Record::SegmentZ => 0,
+        Record::BatchTrailer => 0,
+        Record::FileTrailer => 0,
+    }
+}
+
+// What a line counts.
+pub(crate) fn counted(which: Record, rec: &[u8]) -> Totals
+    requires { ⌜ length (now rec) ≡ recordBytes ⌝ }
+    ensures { λ r. ⌜ r ≡ counts which (now (rec .entry)) ⌝ }
+{
+    Totals::of(
+        batches_of(which),
+        1,
+        payments_of(which),
+        cents_of(which, rec),
+    )
+}

@@ -1,0 +1,55 @@
+// Checks the file on standard input and prints one line: `OK batches records payments cents`, or
+// `NO number line place`. Every rule stands in the library; here the input is read and the answer
+// printed.
+mod input;
+mod reply;
+
+use answer::Answer;
+use checker::Checker;
+use input::BUFFER_BYTES;
+use input::Input;
+ghost use mathlib.Core.Path.{_≡_};
+ghost use lib.ListN.{length};
+ghost use Rattle.cnab240.specs.Sizes.{bufferBytes};
+
+fn buffer() -> [u8; BUFFER_BYTES]
+    ensures { λ r. ⌜ length r ≡ bufferBytes ⌝ }
+{
+    [0; BUFFER_BYTES]
+}
+
+// Reads to the end of the input, or up to a refusal. A proved loop has to end, and nothing says that
+// the input does; so it counts its turns down, from a number that no run uses up.
+fn check(buf: &mut [u8])
+    requires { ⌜ length (now buf) ≡ bufferBytes ⌝ }
+{
+    let mut state = Checker::start();
+    let mut turns = u64::MAX;
+    while 0 < turns {
+        match input::fill(buf) {
+            Input::Full => {}
+            Input::Ended(n) => {
+                reply::outcome(state.finish(&buf[..n]));
+                return;
+            }
+            Input::Failed => {
+                reply::unread();
+                return;
+            }
+        }
+        let stepped = state.run(buf);
+        let answer = stepped.answer;
+        if let Answer::Refused(r) = answer {
+            reply::refused(r);
+            return;
+        }
+        let next = stepped.state;
+        state = next;
+        turns -= 1;
+    }
+}
+
+fn main() {
+    let mut buf = buffer();
+    check(&mut buf);
+}

@@ -1,0 +1,136 @@
+//! What a reply looks like, and what document 01 demands of one.
+
+use std::fmt;
+use std::ops::Range;
+
+/// The number of the reply to a malformed request; no row of document 01.
+pub const MALFORMED: u32 = 0;
+/// How the line of an accepting reply begins.
+pub const ACCEPTED: &str = "OK";
+
+#[derive(Clone, Copy, PartialEq, Eq)]
+pub enum Verdict {
+    Accepted,
+    Refused {
+        number: u32,
+        line: u64,
+        place: usize,
+    },
+}
+
+impl fmt::Display for Verdict {
+    fn fmt(&self, out: &mut fmt::Formatter) -> fmt::Result {
+        match self {
+            Verdict::Accepted => write!(out, "{ACCEPTED}"),
+            Verdict::Refused {
+                number,
+                line,
+                place,
+            } => write!(out, "NO {number} {line} {place}"),
+        }
+    }
+}
+
+/// One line of a reply.
+#[derive(Clone, PartialEq, Eq)]
+pub struct AnswerLine {
+    pub verdict: Verdict,
+    /// For each field of a record that was read its number, or nothing where
+    /// the field is read as bytes; for an accepted file its four totals.
+    pub numbers: Vec<Option<u64>>,
+}
+
+impl AnswerLine {
+    pub fn plain(verdict: Verdict) -> AnswerLine {
+        let numbers = Vec::new();
+        AnswerLine { verdict, numbers }
+    }
+}
+
+impl fmt::Display for AnswerLine {
+    fn fmt(&self, out: &mut fmt::Formatter) -> fmt::Result {
+        write!(out, "{}", self.verdict)?;
+        for number in &self.numbers {
+            match number {
+                Some(number) => write!(out, " {number}")?,
+                None => write!(out, " -")?,
+            }
+        }
+        Ok(())
+    }
+}
+
+/// What document 01 demands of a request.
+pub struct Answer {
+    /// One line, but for a request of single-line calls.
+    pub lines: Vec<AnswerLine>,
+    /// The lent memory after the call, or the text of the record that was read.
+    pub memory: Option<Vec<u8>>,
+    /// Parts of the memory that may hold anything.
+    pub unbound: Vec<Range<usize>>,
+}
+
+impl Answer {
+    pub fn malformed() -> Answer {
+        Answer::without_memory(Verdict::Refused {
+            number: MALFORMED,
+            line: 0,
+            place: 0,
+        })
+    }
+
+    pub fn of_lines(lines: Vec<AnswerLine>) -> Answer {
+        Answer {
+            lines,
+            memory: None,
+            unbound: Vec::new(),
+        }
+    }
+
+    pub fn without_memory(verdict: Verdict) -> Answer {
+        Answer::of_lines(vec![AnswerLine::plain(verdict)])
+    }
+
+    pub fn with_memory(verdict: Verdict, memory: Vec<u8>) -> Answer {
+        Answer {
+            memory: Some(memory),
+            ..Answer::without_memory(verdict)
+        }
+    }
+
+    /// Whether the call, or the last of several, was accepted.
+    pub fn accepts(&self) -> bool {
+        let last = self.lines.last();
+        last.map(|line| line.verdict) == Some(Verdict::Accepted)
+    }
+
+    /// The reply demanded, with what came at the places that may hold anything.
+    pub fn reply_beside(&self, came: &Reply) -> Reply {
+        let mut reply = self.as_reply();
+        if reply.memory.len() == came.memory.len() {
+            for part in &self.unbound {
+                reply.memory[part.clone()].copy_from_slice(&came.memory[part.clone()]);
+            }
+        }
+        reply
+    }
+
+    pub fn as_reply(&self) -> Reply {
+        let lines = self.lines.iter().map(|line| format!("{line}\n"));
+        let lines = lines.collect::<String>().into_bytes();
+        let mut memory = Vec::new();
+        if let Some(lent) = &self.memory {
+            memory.extend_from_slice(lent);
+            memory.push(b'\n');
+        }
+        Reply { lines, memory }
+    }
+}
+
+/// A reply as its bytes travel, line feeds included, so that a missing one is
+/// a difference like any other.
+#[derive(PartialEq, Eq)]
+pub struct Reply {
+    pub lines: Vec<u8>,
+    pub memory: Vec<u8>,
+}
