@@ -148,6 +148,10 @@ lineBytes = 242
 abbrev pub recordIn : List ℕ → List ℕ
 recordIn line = take recordBytes line
 
+-- CR, 13, and LF, 10, at their places
+abbrev pub endsWith : ℕ → ℕ → List ℕ → Rule
+endsWith p byte line = rule 5 p (eqb (place p line) byte)
+
 abbrev pub lineIs : Checker → List ℕ → Due
 lineIs s rec = readAs (place typePlace rec) (place segmentPlace rec) (follows (s .phase) (s .dir) (s .batch))
 
@@ -165,8 +169,8 @@ typeRules s rec = rule 6 typePlace (found (lineIs s rec)) ∷ dueRules (lineIs s
 unfoldable pub lineRules : Checker → List ℕ → List Rule
 lineRules s line =
     byteRule (recordIn line)
-    ∷ rule 5 241 (eqb (place 241 line) 13)
-    ∷ rule 5 242 (eqb (place 242 line) 10)
+    ∷ endsWith 241 13 line
+    ∷ endsWith 242 10 line
     ∷ typeRules s (recordIn line)
 
 unfoldable pub rulesOfLine : Checker → List ℕ → List Rule

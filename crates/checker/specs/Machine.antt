@@ -19,7 +19,7 @@ use Rattle.layout.specs.declared.Record.the-variants.{FileHeader, BatchHeader, 
 use Rattle.layout.specs.declared.pairs.Batch.{Batch}
 use Rattle.layout.specs.declared.pairs.Batch.the-variants.{Unknown}
 use Rattle.checker.specs.Order.{after}
-use Rattle.checker.specs.Totals.{none, add, counts}
+use Rattle.checker.specs.Totals.{none, add, counts, amountDigits}
 use Rattle.checker.specs.Line.{recordIn, lineIs, rulesOfLine, mostBatches, mostPayments}
 use Rattle.checker.specs.declared.order.Due.{Due}
 use Rattle.checker.specs.declared.order.Due.the-variants.{Line, Nothing}
@@ -68,12 +68,12 @@ moved Nothing s rec = s
 
 -- ---- states that no run produces
 
--- a payment has at most three records, and its amount 15 digits
+-- a payment has at most three records
 abbrev pub batchRecordsMost : ℕ
 batchRecordsMost = 1 + 3 * mostPayments
 
 abbrev pub batchCentsMost : ℕ
-batchCentsMost = mostPayments * 10 ^ 15
+batchCentsMost = mostPayments * 10 ^ amountDigits
 
 -- no run counts more (the law `reached`)
 unfoldable pub sound : Checker → Bool

@@ -2,7 +2,7 @@
 use mathlib.Core.Bool.{Bool, true, false}
 use mathlib.Core.List.{List, [], _∷_, _++_}
 use lib.Dec.{leb, eqb}
-use Prim.Native.Nat.{ℕ, _+_, _*_, _≤_, _<_}
+use Prim.Native.Nat.{ℕ, _+_, _*_, _≤_, _<_, _^_}
 use Rattle.answer.specs.Limits.{fileCents}
 use Rattle.answer.specs.Rules.{Rule, rule}
 use Rattle.layout.specs.Table.{numberField, segmentFields, segmentPlace}
@@ -19,10 +19,8 @@ use Rattle.checker.specs.declared.order.Due.{Due}
 use Rattle.checker.specs.declared.order.Due.the-variants.{Line, Nothing}
 use Rattle.checker.specs.declared.order.Phase.{Phase}
 use Rattle.checker.specs.declared.order.Phase.the-variants.{Start, Headed, Opened, Begun, Paid, Noted, Closed, Ended}
+use Rattle.checker.specs.declared.totals.Totals.{Totals}
 use Rattle.checker.specs.declared.Checker.{Checker}
-
-abbrev pub amountDigits : ℕ
-amountDigits = 15
 
 abbrev pub isReturn : Direction → Bool
 isReturn Remittance = false
@@ -85,3 +83,10 @@ pub record Bounded (s : Checker) : Type 0 where
   pub records-current : s .current .records .0 ≤ batchRecordsMost
   pub payments-current : s .current .payments ≤ mostPayments
   pub cents-current : s .current .cents .0 ≤ batchCentsMost
+
+-- the sums fit 64 bits
+pub record FitSum (a b : Totals) : Type 0 where
+  pub batches : a .batches + b .batches < 2 ^ 64
+  pub records : a .records .0 + b .records .0 < 2 ^ 64
+  pub payments : a .payments + b .payments < 2 ^ 64
+  pub cents : a .cents .0 + b .cents .0 < 2 ^ 64

@@ -1,6 +1,6 @@
 -- What lines count: batches, records, payments and cents. Assumes nothing.
 use mathlib.Core.List.{List}
-use Prim.Native.Nat.{ℕ, _+_, _<_, _^_}
+use Prim.Native.Nat.{ℕ, _+_}
 use Rattle.digits.specs.Numbers.{value}
 use Rattle.layout.specs.Table.{part, creditAmount, boletoAmount}
 use Rattle.layout.specs.declared.Record.{Record}
@@ -27,6 +27,9 @@ batchesOf SegmentJ52 = 0
 batchesOf SegmentZ = 0
 batchesOf BatchTrailer = 0
 batchesOf FileTrailer = 0
+
+abbrev pub amountDigits : ℕ
+amountDigits = 15
 
 -- the amount of a payment stands in its first record, and counts whatever the movement
 abbrev pub centsOf : Record → List ℕ → ℕ
@@ -55,10 +58,3 @@ paymentsOf FileTrailer = 0
 -- a line is one record
 abbrev pub counts : Record → List ℕ → Totals
 counts r rec = totals (batchesOf r) 1 (paymentsOf r) (centsOf r rec)
-
--- the sums fit 64 bits
-pub record FitSum (a b : Totals) : Type 0 where
-  pub batches : a .batches + b .batches < 2 ^ 64
-  pub records : a .records .0 + b .records .0 < 2 ^ 64
-  pub payments : a .payments + b .payments < 2 ^ 64
-  pub cents : a .cents .0 + b .cents .0 < 2 ^ 64

@@ -11,8 +11,9 @@ use layout::Record;
 ghost use mathlib.Core.Path.{_≡_};
 ghost use lib.ListN.{length};
 ghost use Rattle.layout.specs.Table.{recordBytes};
+ghost use Rattle.checker.specs.Order.{after};
 ghost use Rattle.checker.specs.Line.{lineIs};
-ghost use Rattle.checker.specs.Machine.{directionOf, inBatch, next, moved};
+ghost use Rattle.checker.specs.Machine.{state, directionOf, inBatch, next, moved};
 ghost use Rattle.checker.specs.Steps.{Bounded};
 
 fn direction_of(rec: &[u8]) -> Direction
@@ -46,23 +47,30 @@ impl Checker {
         }
     }
 
-    // A line of a batch counts in the open batch.
-    fn in_batch(self, which: Record, batch: Batch, rec: &[u8]) -> Checker
-        requires { ⌜ length (now rec) ≡ recordBytes ⌝ }
-        requires { ⌜ Bounded self ⌝ }
-        ensures { λ r. ⌜ r ≡ inBatch which batch self (now (rec .entry)) ⌝ }
+    // Behind any other line: direction and bank stay.
+    fn behind(self, which: Record, batch: Batch, closed: Totals, current: Totals) -> Checker
+        ensures { λ r. ⌜ r ≡ state (after which) (self .dir) batch (self .bank) closed current ⌝ }
     {
         let dir = self.dir;
-        let closed = self.closed;
-        let current = self.current;
         Checker {
             phase: order::phase_after(which),
             dir,
             batch,
             bank: self.bank,
             closed,
-            current: current.plus(counted(which, rec)),
+            current,
         }
+    }
+
+    // A line of a batch counts in the open batch.
+    fn in_batch(self, which: Record, batch: Batch, rec: &[u8]) -> Checker
+        requires { ⌜ length (now rec) ≡ recordBytes ⌝ }
+        requires { ⌜ Bounded self ⌝ }
+        ensures { λ r. ⌜ r ≡ inBatch which batch self (now (rec .entry)) ⌝ }
+    {
+        let closed = self.closed;
+        let current = self.current;
+        self.behind(which, batch, closed, current.plus(counted(which, rec)))
     }
 
     // A batch header gives the kind of batch.
@@ -88,17 +96,10 @@ impl Checker {
         ensures { λ r. ⌜ r ≡ next Record.BatchTrailer self (now (rec .entry)) ⌝ }
     {
         let which = Record::BatchTrailer;
-        let dir = self.dir;
         let closed = self.closed;
         let current = self.current;
-        Checker {
-            phase: order::phase_after(which),
-            dir,
-            batch: Batch::Unknown,
-            bank: self.bank,
-            closed: closed.plus(current.plus(counted(which, rec))),
-            current: Totals::of(0, 0, 0, 0),
-        }
+        let all = closed.plus(current.plus(counted(which, rec)));
+        self.behind(which, Batch::Unknown, all, Totals::of(0, 0, 0, 0))
     }
 
     fn ended(self, rec: &[u8]) -> Checker
@@ -107,17 +108,14 @@ impl Checker {
         ensures { λ r. ⌜ r ≡ next Record.FileTrailer self (now (rec .entry)) ⌝ }
     {
         let which = Record::FileTrailer;
-        let dir = self.dir;
         let closed = self.closed;
         let current = self.current;
-        Checker {
-            phase: order::phase_after(which),
-            dir,
-            batch: Batch::Unknown,
-            bank: self.bank,
-            closed: closed.plus(counted(which, rec)),
+        self.behind(
+            which,
+            Batch::Unknown,
+            closed.plus(counted(which, rec)),
             current,
-        }
+        )
     }
 
     // The state behind a line that is read as this record.

@@ -8,8 +8,8 @@ ghost use Prim.Native.Nat.{_+_, _-_, _≤_, _<_, _^_};
 ghost use lib.ListN.{length, take, drop};
 ghost use Rattle.digits.specs.Numbers.{value};
 ghost use Rattle.layout.specs.Table.{recordBytes};
-ghost use Rattle.checker.specs.Totals.{totals, add, batchesOf, paymentsOf, centsOf, counts, FitSum};
-ghost use Rattle.checker.specs.Steps.{amountDigits};
+ghost use Rattle.checker.specs.Totals.{totals, add, batchesOf, paymentsOf, centsOf, counts, amountDigits};
+ghost use Rattle.checker.specs.Steps.{FitSum};
 
 pub struct Totals {
     pub batches: u64,

@@ -12,9 +12,9 @@ use Rattle.layout.specs.Table.{part, creditAmount, boletoAmount}
 use Rattle.layout.specs.laws.Bytes.{and-left, and-right}
 use Rattle.layout.specs.declared.Record.{Record}
 use Rattle.layout.specs.declared.Record.the-variants.{FileHeader, BatchHeader, SegmentA, SegmentB, SegmentJ, SegmentJ52, SegmentZ, BatchTrailer, FileTrailer}
-use Rattle.checker.specs.Totals.{add, counts, batchesOf, paymentsOf, centsOf, FitSum}
+use Rattle.checker.specs.Totals.{add, counts, batchesOf, paymentsOf, centsOf, amountDigits}
 use Rattle.checker.specs.Machine.{sound}
-use Rattle.checker.specs.Steps.{Bounded, amountDigits}
+use Rattle.checker.specs.Steps.{Bounded, FitSum}
 use Rattle.checker.specs.declared.totals.Totals.{Totals}
 use Rattle.checker.specs.declared.Checker.{Checker}
 

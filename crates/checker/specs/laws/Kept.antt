@@ -18,10 +18,10 @@ use Rattle.layout.specs.declared.Record.the-variants.{FileHeader, BatchHeader, 
 use Rattle.layout.specs.declared.pairs.Batch.{Batch}
 use Rattle.layout.specs.declared.pairs.Batch.the-variants.{Credit, Boleto, Unknown}
 use Rattle.checker.specs.Order.{follows}
-use Rattle.checker.specs.Totals.{totals, none, add, paymentsOf}
+use Rattle.checker.specs.Totals.{add, paymentsOf, amountDigits}
 use Rattle.checker.specs.Line.{reads, behind, between, mostBatches, mostPayments, recordIn, rulesAs, houseRules, detailRules}
 use Rattle.checker.specs.Machine.{start, next, batchRecordsMost, stepOf}
-use Rattle.checker.specs.Steps.{amountDigits, Bounded}
+use Rattle.checker.specs.Steps.{Bounded}
 use Rattle.checker.specs.Calls.{Among}
 use Rattle.checker.specs.declared.order.Phase.{Phase}
 use Rattle.checker.specs.declared.order.Phase.the-variants.{Start, Headed, Opened, Begun, Paid, Noted, Closed, Ended}
@@ -73,15 +73,6 @@ stage-small Paid = omega arith
 stage-small Noted = omega arith
 stage-small Closed = omega arith
 stage-small Ended = omega arith
-
--- where no batch is open, nothing is counted in one
-pub none-open : {s : Checker} → Kept s → stage (s .phase) .opened ≡ 0 → s .current ≡ none
-none-open {s} k e =
-    let payments : s .current .payments ≡ 0 = omega arith in
-    let batches : s .current .batches ≡ 0 = omega arith in
-    let records : s .current .records .0 ≡ 0 = omega arith in
-    let cents : s .current .cents .0 ≡ 0 = omega arith in
-    λ i. totals (batches i) (records i) (payments i) (cents i)
 
 pub kept-bounded : {s : Checker} → Kept s → Bounded s
 kept-bounded {s} k = omega (arith, stage-small (s .phase))

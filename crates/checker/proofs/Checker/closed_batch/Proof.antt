@@ -1,27 +1,27 @@
 -- `checker::Checker::closed_batch` meets its contract: the batch counts in the file. Assumes nothing.
-use mathlib.Core.List.{[]}
 use Rattle.checker.specs.laws.Bounds.{room}
+use mathlib.Core.List.{[]}
 use Rattle.layout.specs.declared.Record.the-variants.{BatchTrailer}
 use borrow.Author.Needs.{needs}
 use Rattle.checker.proofs.Checker.closed_batch.Statement.{statement}
 use Rattle.checker.proofs.Checker.closed_batch.Tie as tie
 
 plus-requires : tie.Need-plus-requires
-plus-requires c κs = rw (c .counted .ensures) (room (c .before .before .before .before .before .pre .1) BatchTrailer [] .in-batch)
+plus-requires c κs = rw (c .counted .ensures) (room (c .before .before .before .before .pre .1) BatchTrailer [] .in-batch)
 
 plus-requires-2 : tie.Need-plus-requires-2
-plus-requires-2 c κs = rw (c .plus .ensures, c .before .counted .ensures) (room (c .before .before .before .before .before .before .pre .1) BatchTrailer [] .at-end)
+plus-requires-2 c κs = rw (c .plus .ensures, c .before .counted .ensures) (room (c .before .before .before .before .before .pre .1) BatchTrailer [] .at-end)
 
 returns : tie.Need-returns
-returns c = rw (c .of .ensures, c .before .plus2 .ensures, c .before .before .plus .ensures, c .before .before .before .counted .ensures, c .before .before .before .before .phase-after .ensures)
+returns c = rw (c .behind .ensures, c .before .of .ensures, c .before .before .plus2 .ensures, c .before .before .before .plus .ensures, c .before .before .before .before .counted .ensures)
 
 pub closed-batch-spec : {M : Type 1} → statement M
 closed-batch-spec =
     tie.close
     (tie.spec
     (λ c κs. search needs)
-    (λ c κs. search needs)
     plus-requires
     plus-requires-2
+    (λ c κs. search needs)
     (λ c κs. search needs)
     returns)
