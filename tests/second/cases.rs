@@ -7,13 +7,17 @@ use std::iter;
 use crate::digit_cases::{self, PAPER_LINE};
 use crate::file_cases::{self, FileCases};
 use crate::file_rules::LINE_BYTES;
+use crate::file_state::BatchKind;
 use crate::good_barcodes::{self, PAPER_BARCODE};
+use crate::good_calls::{calls_of, small_file, steps};
 use crate::probe::{self, Header, Op, Request, BYTES_LIMIT, HEADER_BYTES, UNUSED};
 use crate::probe::{DIRECTION_AT, KIND_AT, OP_AT};
 use crate::random::Random;
 use crate::record_kinds::{Direction, RecordKind, Subject};
 use crate::record_table::RECORD_BYTES;
 use crate::records::Values;
+use crate::script_cases::ScriptCases;
+use crate::writer_script;
 use crate::{large_file_cases, line_call_cases, plain_files, record_cases, record_write_cases};
 
 const BARCODE_SEED: u64 = 1;
@@ -24,10 +28,14 @@ const RECORD_SEED: u64 = 6;
 const RECORD_WRITE_SEED: u64 = 7;
 const LARGE_FILE_SEED: u64 = 8;
 const PAIRS_OF_FLAWS_SEED: u64 = 10;
+const GOOD_SCRIPT_SEED: u64 = 11;
 const ROUNDS_OF_PAIRS: usize = 2;
 /// The first of the streams about files has this seed, the others the next ones.
 const FIRST_FILE_SEED: u64 = 100;
 const FILE_STREAMS: u64 = 16;
+/// And so for the streams about the writer.
+const FIRST_WRITER_SEED: u64 = 200;
+const WRITER_STREAMS: u64 = 9;
 /// How often each good request stands among those about files.
 const GOOD_REQUESTS_AMONG_FILES: usize = 10;
 
@@ -68,11 +76,31 @@ pub fn accepted_barcodes() -> Vec<Vec<u8>> {
 }
 
 /// All streams, each made only when it is wanted: together they are large, and
-/// a seeded fault is mostly caught in the first of them.
-pub fn streams(barcodes: &[Vec<u8>]) -> impl Iterator<Item = Stream> + '_ {
-    let strings = iter::once_with(move || stream_of_strings(barcodes));
+/// a seeded fault is mostly caught in the first about its topic.
+pub fn streams() -> impl Iterator<Item = Stream> {
     let cut = iter::once_with(cut_streams).flatten();
-    strings.chain(file_streams()).chain(cut)
+    let whole = string_streams().chain(file_streams());
+    whole.chain(writer_streams()).chain(cut)
+}
+
+/// The one stream about digit strings and records alone.
+pub fn string_streams() -> impl Iterator<Item = Stream> {
+    iter::once_with(|| stream_of_strings(&accepted_barcodes()))
+}
+
+/// The streams about the writer, the first of them with the long scripts.
+pub fn writer_streams() -> impl Iterator<Item = Stream> {
+    (0..WRITER_STREAMS).map(|index| {
+        let mut random = Random::with_seed(FIRST_WRITER_SEED + index);
+        let mut cases = ScriptCases::new(&mut random);
+        if index == 0 {
+            cases.ask_long();
+        }
+        cases.ask_all();
+        let mut requests = cases.requests;
+        requests.extend(good_requests());
+        Stream::shuffled(requests, &mut random)
+    })
 }
 
 /// The streams about files, the one with the large ones early among them.
@@ -126,15 +154,16 @@ fn stream_of_strings(barcodes: &[Vec<u8>]) -> Stream {
     Stream::shuffled(requests, &mut Random::with_seed(ORDER_SEED))
 }
 
-fn good_requests() -> [Request; 6] {
+fn good_requests() -> [Request; 7] {
     let mut record = FILE_TRAILER.to_vec();
     record.resize(RECORD_BYTES, b' ');
     let kind = RecordKind::FileTrailer;
     let direction = Direction::Remittance;
     let subject = Subject { kind, direction };
     let values = Values::of_record(kind, &record).to_payload();
-    let file = plain_files::one_payment();
-    let calls = probe::payload_of_calls(file.chunks(LINE_BYTES));
+    let lines = plain_files::one_payment();
+    let calls = probe::payload_of_calls(lines.chunks(LINE_BYTES));
+    let (script, file) = good_script();
     [
         Request::new(Op::BarcodeToLine, UNUSED, ROOM, PAPER_BARCODE.to_vec()),
         Request::new(Op::LineToBarcode, UNUSED, ROOM, PAPER_LINE.to_vec()),
@@ -142,7 +171,21 @@ fn good_requests() -> [Request; 6] {
         Request::about_record(Op::WriteRecord, subject, RECORD_BYTES, values),
         Request::new(Op::CheckFile, UNUSED, 0, file),
         Request::new(Op::CheckLines, UNUSED, 0, calls),
+        script,
     ]
+}
+
+/// A script that closes a file, and that file.
+fn good_script() -> (Request, Vec<u8>) {
+    let mut random = Random::with_seed(GOOD_SCRIPT_SEED);
+    let made = small_file(&mut random, Direction::Remittance, BatchKind::Credit);
+    let script = steps(&calls_of(&mut random, &made));
+    let payload = writer_script::to_payload(&script);
+    let file = made.bytes();
+    (
+        Request::new(Op::WriteFile, UNUSED, file.len(), payload),
+        file,
+    )
 }
 
 /// The few among them that stay well-formed are cases as good as any.

@@ -13,6 +13,7 @@ use crate::probe::{Call, Request};
 use crate::record_rules::RecordRules;
 use crate::replies::Answer;
 use crate::tally::Tally;
+use crate::writer;
 
 /// What document 01 demands of a request; with a fault, what that mistake makes
 /// of it.
@@ -31,6 +32,10 @@ pub fn expected_answer(request: &Request, fault: Option<Fault>) -> Answer {
         Call::WriteRecord { subject, room } => records.write(subject, payload, room),
         Call::CheckFile => Answer::of_lines(vec![file_reader::check_file(payload, fault)]),
         Call::CheckLines => file_reader::check_lines(request, fault),
+        Call::WriteFile { room } => match request.script() {
+            Ok(script) => writer::answer(&script, room, fault),
+            Err(_) => Answer::malformed(),
+        },
     }
 }
 
@@ -38,11 +43,10 @@ pub fn expected_answer(request: &Request, fault: Option<Fault>) -> Answer {
 pub fn first_difference(
     command: &[String],
     streams: impl Iterator<Item = Stream>,
-    fault: Option<Fault>,
     tally: &mut Tally,
 ) -> io::Result<Option<Difference>> {
     for stream in streams {
-        let difference = difference_in(command, &stream, fault, tally)?;
+        let difference = difference_in(command, &stream, tally)?;
         if difference.is_some() {
             return Ok(difference);
         }
@@ -53,12 +57,11 @@ pub fn first_difference(
 fn difference_in(
     command: &[String],
     stream: &Stream,
-    fault: Option<Fault>,
     tally: &mut Tally,
 ) -> io::Result<Option<Difference>> {
     let mut conversation = Conversation::start(command, bytes_of(stream))?;
     for request in &stream.requests {
-        let answer = expected_answer(request, fault);
+        let answer = expected_answer(request, None);
         let came = conversation.next_reply(request)?;
         let expected = answer.reply_beside(&came);
         tally.count(request, &answer);
@@ -77,7 +80,7 @@ fn difference_in(
     Ok((!came.is_empty()).then_some(Difference::Surplus { cut_request, came }))
 }
 
-fn bytes_of(stream: &Stream) -> Vec<u8> {
+pub fn bytes_of(stream: &Stream) -> Vec<u8> {
     let mut bytes = Vec::new();
     for request in &stream.requests {
         request.append_to(&mut bytes);

@@ -8,16 +8,43 @@ use std::thread::{self, JoinHandle};
 use crate::probe::{Call, Request};
 use crate::record_table::RECORD_BYTES;
 use crate::replies::{Answer, Reply, ACCEPTED};
+use crate::writer_script::Step;
 
 /// No reply line comes near this; it keeps a runaway reply from filling memory.
 const LONGEST_REPLY_LINE: u64 = 400;
 
-/// What follows the first line of a reply.
-enum Rest {
-    Nothing,
-    /// So many bytes and a line feed.
-    Memory(usize),
-    Lines(usize),
+/// What a reply still has behind what was read of it: so many lines, and then,
+/// perhaps, so many bytes and a line feed.
+struct Rest {
+    lines: usize,
+    memory: Option<usize>,
+}
+
+impl Rest {
+    const NOTHING: Rest = Rest::lines(0);
+
+    const fn lines(lines: usize) -> Rest {
+        let memory = None;
+        Rest { lines, memory }
+    }
+
+    fn memory(bytes: usize) -> Rest {
+        let memory = Some(bytes);
+        Rest { lines: 0, memory }
+    }
+}
+
+/// Only a script without a call has a reply that is memory alone.
+fn has_lines(request: &Request) -> bool {
+    match request.call() {
+        Some(Call::WriteFile { .. }) => request.script().map_or(true, |s| calls_in(&s) > 0),
+        _ => true,
+    }
+}
+
+fn calls_in(script: &[Step]) -> usize {
+    let steps = script.iter();
+    steps.filter(|step| matches!(step, Step::Call(_))).count()
 }
 
 /// The malformed reply has nothing behind it: what follows is the next reply.
@@ -25,18 +52,25 @@ fn rest_behind(first_line: &[u8], request: &Request) -> Rest {
     let malformed = first_line == Answer::malformed().as_reply().lines;
     let call = match request.call() {
         Some(call) if !malformed => call,
-        _ => return Rest::Nothing,
+        _ => return Rest::NOTHING,
     };
     match call {
         Call::BarcodeToLine { room }
         | Call::LineToBarcode { room }
-        | Call::WriteRecord { room, .. } => Rest::Memory(room),
+        | Call::WriteRecord { room, .. } => Rest::memory(room),
         Call::ReadRecord { .. } if first_line.starts_with(ACCEPTED.as_bytes()) => {
-            Rest::Memory(RECORD_BYTES)
+            Rest::memory(RECORD_BYTES)
         }
-        Call::ReadRecord { .. } | Call::CheckFile => Rest::Nothing,
+        Call::ReadRecord { .. } | Call::CheckFile => Rest::NOTHING,
         // The end's line comes last, so there is one line more than calls.
-        Call::CheckLines => Rest::Lines(request.line_calls().map_or(0, |calls| calls.len())),
+        Call::CheckLines => Rest::lines(request.line_calls().map_or(0, |calls| calls.len())),
+        Call::WriteFile { room } => match request.script() {
+            Ok(script) => Rest {
+                lines: calls_in(&script).saturating_sub(1),
+                memory: Some(room),
+            },
+            Err(_) => Rest::NOTHING,
+        },
     }
 }
 
@@ -71,19 +105,17 @@ impl Conversation {
     /// Reads the reply to a request, be it malformed or not.
     pub fn next_reply(&mut self, request: &Request) -> io::Result<Reply> {
         let (mut lines, mut memory) = (Vec::new(), Vec::new());
-        self.read_line(&mut lines)?;
-        match rest_behind(&lines, request) {
-            Rest::Nothing => {}
-            Rest::Memory(bytes) => {
-                let with_line_feed = bytes as u64 + 1;
-                let mut part = self.replies.by_ref().take(with_line_feed);
-                part.read_to_end(&mut memory)?;
-            }
-            Rest::Lines(count) => {
-                for _ in 0..count {
-                    self.read_line(&mut lines)?;
-                }
-            }
+        if has_lines(request) {
+            self.read_line(&mut lines)?;
+        }
+        let rest = rest_behind(&lines, request);
+        for _ in 0..rest.lines {
+            self.read_line(&mut lines)?;
+        }
+        if let Some(bytes) = rest.memory {
+            let with_line_feed = bytes as u64 + 1;
+            let mut part = self.replies.by_ref().take(with_line_feed);
+            part.read_to_end(&mut memory)?;
         }
         Ok(Reply { lines, memory })
     }

@@ -5,10 +5,12 @@ use std::fmt;
 use crate::file_rules::LINE_BYTES;
 use crate::probe::{Call, Request};
 use crate::replies::Reply;
+use crate::writer_script::{Step, WriterCall};
 
 /// Longer payloads and memories are shown only in part.
 const BYTES_SHOWN: usize = 760;
 const LINES_SHOWN: usize = 80;
+const STEPS_SHOWN: usize = 20;
 
 pub enum Difference {
     /// A request, counted from 1 over all streams, was answered otherwise.
@@ -57,8 +59,42 @@ fn show_request(out: &mut fmt::Formatter, request: &Request) -> fmt::Result {
             let calls = request.line_calls().unwrap_or_default();
             show_lines(out, calls.into_iter())
         }
+        Some(Call::WriteFile { .. }) => show_script(out, request),
         _ => writeln!(out, "  payload  {}", shown(&request.payload)),
     }
+}
+
+/// Each step on a line of its own, and each record of a call.
+fn show_script(out: &mut fmt::Formatter, request: &Request) -> fmt::Result {
+    let script = match request.script() {
+        Ok(script) => script,
+        Err(misfit) => {
+            writeln!(out, "  no script: {misfit:?}")?;
+            return writeln!(out, "  payload  {}", shown(&request.payload));
+        }
+    };
+    let left_out = script.len().saturating_sub(STEPS_SHOWN);
+    if left_out > 0 {
+        writeln!(out, "  {left_out} steps, and then")?;
+    }
+    for step in script.iter().skip(left_out) {
+        match step {
+            Step::Call(call) => show_call(out, call)?,
+            Step::Lend(bytes) => writeln!(out, "  lend {bytes}")?,
+            Step::Overwrite(byte) => writeln!(out, "  overwrite with {byte}")?,
+        }
+    }
+    Ok(())
+}
+
+fn show_call(out: &mut fmt::Formatter, call: &WriterCall) -> fmt::Result {
+    writeln!(out, "  call {}", char::from(call.kind.code()))?;
+    for record in &call.records {
+        let kind = char::from(record.kind.code());
+        writeln!(out, "    {kind} {:?}", record.values.numbers)?;
+        writeln!(out, "      {}", shown(&record.values.text))?;
+    }
+    Ok(())
 }
 
 /// The lines of a file, or the calls of a request, each on a line of its own.

@@ -2,6 +2,8 @@
 //! A comparison that does not notice one of them would not notice the same
 //! mistake in the payment desk either.
 
+use crate::writer_faults::{WriterFault, WRITER_FAULTS};
+
 #[derive(Clone, Copy, PartialEq, Eq)]
 pub enum Fault {
     RemainderZeroOrOneGivesZero,
@@ -78,6 +80,7 @@ pub enum Fault {
     RefusedLineMovesTheState,
     LinesCountedByCalls,
     RefusalKeptToTheEnd,
+    Writer(WriterFault),
 }
 
 /// Mistakes about digit strings and records alone.
@@ -216,24 +219,28 @@ const NAMED_FILE_FAULTS: [(&str, Fault); 36] = [
     ("refusal-kept-to-the-end", Fault::RefusalKeptToTheEnd),
 ];
 
-fn named_faults() -> impl Iterator<Item = &'static (&'static str, Fault)> {
-    NAMED_FAULTS.iter().chain(&NAMED_FILE_FAULTS)
+/// What a fault is about: requests about other things do not show it.
+#[derive(Clone, Copy, PartialEq, Eq)]
+pub enum Topic {
+    StringsAndRecords,
+    Files,
+    Writer,
 }
 
-pub fn names() -> impl Iterator<Item = &'static str> {
-    named_faults().map(|(name, _)| *name)
-}
+pub const TOPICS: [Topic; 3] = [Topic::StringsAndRecords, Topic::Files, Topic::Writer];
 
-pub fn by_name(wanted: &str) -> Option<Fault> {
-    let found = named_faults().find(|(name, _)| *name == wanted);
-    found.map(|(_, fault)| *fault)
-}
-
-impl Fault {
-    /// Whether only requests about files can show the fault.
-    pub fn is_about_files(self) -> bool {
-        NAMED_FILE_FAULTS.iter().any(|(_, fault)| *fault == self)
-    }
+/// All faults about a topic with their names.
+pub fn faults_about(topic: Topic) -> Vec<(String, Fault)> {
+    let named = match topic {
+        Topic::StringsAndRecords => NAMED_FAULTS.as_slice(),
+        Topic::Files => NAMED_FILE_FAULTS.as_slice(),
+        Topic::Writer => {
+            let faults = WRITER_FAULTS.iter();
+            return faults.map(|f| (f.name(), Fault::Writer(*f))).collect();
+        }
+    };
+    let named = named.iter();
+    named.map(|(name, f)| (name.to_string(), *f)).collect()
 }
 
 /// How a fault of order is sown: one row is tested before another. Nothing

@@ -265,7 +265,7 @@ fn detail_by_place(batch: &Batch) -> RecordKind {
 }
 
 /// A batch header has the ordinal of the batch that it opens.
-fn number_of_batch(kind: RecordKind, state: &State) -> u64 {
+pub fn number_of_batch(kind: RecordKind, state: &State) -> u64 {
     match kind {
         RecordKind::FileHeader => BATCH_NUMBER_OF_FILE_HEADER,
         RecordKind::FileTrailer => BATCH_NUMBER_OF_FILE_TRAILER,

@@ -1,6 +1,6 @@
 //! What the line checker of document 01 knows between two lines.
 
-use crate::record_kinds::Direction;
+use crate::record_kinds::{Direction, RecordKind};
 
 #[derive(Clone, Copy, PartialEq, Eq)]
 pub enum BatchKind {
@@ -9,6 +9,23 @@ pub enum BatchKind {
 }
 
 pub const BATCH_KINDS: [BatchKind; 2] = [BatchKind::Credit, BatchKind::Boleto];
+
+impl BatchKind {
+    /// The first and the second record of each payment.
+    pub fn payment_kinds(self) -> (RecordKind, RecordKind) {
+        match self {
+            BatchKind::Credit => (RecordKind::A, RecordKind::B),
+            BatchKind::Boleto => (RecordKind::J, RecordKind::J52),
+        }
+    }
+
+    pub fn other(self) -> BatchKind {
+        match self {
+            BatchKind::Credit => BatchKind::Boleto,
+            BatchKind::Boleto => BatchKind::Credit,
+        }
+    }
+}
 
 /// The last line of a batch that was accepted.
 #[derive(Clone, Copy, PartialEq, Eq)]
@@ -91,5 +108,11 @@ impl State {
 
     pub fn has_ended(&self) -> bool {
         matches!(self.stage, Stage::Ended)
+    }
+
+    /// Batches, records, payments and cents of a file that has ended.
+    pub fn totals(&self) -> [u64; 4] {
+        let cents = self.cents as u64;
+        [self.batches, self.accepted_lines, self.payments, cents]
     }
 }

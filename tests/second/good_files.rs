@@ -126,7 +126,7 @@ impl FileMaker<'_> {
             SERVICE_AND_FORM.put(&mut header.bytes, &pair);
         }
         for _ in 0..batch.payments {
-            let (first, second) = payment_kinds(batch.kind);
+            let (first, second) = batch.kind.payment_kinds();
             self.add(first);
             self.add(second);
             if self.file.direction == Direction::Return && self.random.coin() {
@@ -134,13 +134,6 @@ impl FileMaker<'_> {
             }
         }
         self.add(RecordKind::BatchTrailer);
-    }
-}
-
-pub fn payment_kinds(batch: BatchKind) -> (RecordKind, RecordKind) {
-    match batch {
-        BatchKind::Credit => (RecordKind::A, RecordKind::B),
-        BatchKind::Boleto => (RecordKind::J, RecordKind::J52),
     }
 }
 

@@ -93,19 +93,10 @@ impl Machine {
         self.state.has_ended()
     }
 
-    /// Batches, records, payments and cents.
     fn acceptance(&self) -> AnswerLine {
-        let State {
-            batches,
-            accepted_lines,
-            payments,
-            cents,
-            ..
-        } = self.state;
-        let numbers = [batches, accepted_lines, payments, cents as u64];
         AnswerLine {
             verdict: Verdict::Accepted,
-            numbers: numbers.map(Some).to_vec(),
+            numbers: self.state.totals().map(Some).to_vec(),
         }
     }
 
@@ -172,7 +163,7 @@ impl Machine {
     }
 }
 
-fn batch_kind(header: &[u8]) -> BatchKind {
+pub fn batch_kind(header: &[u8]) -> BatchKind {
     if SERVICE.of(header) == CREDIT_SERVICE {
         BatchKind::Credit
     } else {

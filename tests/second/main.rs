@@ -6,12 +6,15 @@
 
 mod boleto_rules;
 mod calendar;
+mod call_flaws;
+mod call_sights;
 mod cases;
 mod compare;
 mod conversation;
 mod difference;
 mod digit_cases;
 mod digit_strings;
+mod fault_hunt;
 mod faults;
 mod file_cases;
 mod file_claims;
@@ -20,6 +23,7 @@ mod file_reader;
 mod file_rules;
 mod file_state;
 mod good_barcodes;
+mod good_calls;
 mod good_files;
 mod good_records;
 mod large_file_cases;
@@ -30,6 +34,7 @@ mod line_call_cases;
 mod line_flaws;
 mod line_order;
 mod machine;
+mod malformed_scripts;
 mod numbering;
 mod paper_claims;
 mod places;
@@ -46,21 +51,40 @@ mod record_table;
 mod record_write_cases;
 mod records;
 mod replies;
+mod script_cases;
+mod script_demands;
+mod script_field_cases;
+mod script_kind_cases;
+mod script_mixture_cases;
+mod script_pair_cases;
+mod script_room_cases;
+mod script_sights;
+mod script_tally;
+mod script_turn_cases;
+mod stand_in;
 mod tally;
+mod writer;
+mod writer_claims;
+mod writer_faults;
+mod writer_fill;
+mod writer_order;
+mod writer_record_rules;
+mod writer_rules;
+mod writer_script;
+mod writer_slips;
 
 use std::env;
 use std::io::{self, BufWriter};
 use std::process::ExitCode;
 
-use cases::Stream;
-use difference::Difference;
-use faults::Fault;
 use tally::Tally;
 
 const USAGE: &str = "usage: second PROGRAM [ARGS..]
        second --fault NAME PROGRAM [ARGS..]
+       second --faults PROGRAM [ARGS..]
        second --faults
        second --limits PROGRAM [ARGS..]
+       second --stand-in
        second --file NAME
        second --files";
 
@@ -78,15 +102,19 @@ fn main() -> ExitCode {
 fn run(arguments: &[String]) -> Result<(), String> {
     match arguments.first().map(String::as_str) {
         Some("--faults") if arguments.len() == 1 => {
-            faults::names().for_each(|name| println!("{name}"));
+            println!("{}", fault_hunt::names().join("\n"));
             Ok(())
         }
+        Some("--faults") => fault_hunt::catch_all(&arguments[1..]),
         Some("--fault") if arguments.len() > 2 => {
-            let name = &arguments[1];
-            let fault = faults::by_name(name).ok_or_else(|| format!("no fault is named {name}"))?;
-            catch_fault(name, fault, &arguments[2..])
+            fault_hunt::catch_one(&arguments[2..], &arguments[1])
         }
         Some("--limits") if arguments.len() > 1 => limits::check(&arguments[1..]),
+        Some("--stand-in") if arguments.len() == 1 => {
+            let mut replies = BufWriter::new(io::stdout());
+            stand_in::answer_all(&mut io::stdin().lock(), &mut replies)
+                .map_err(|error| format!("cannot answer: {error}"))
+        }
         Some("--file") if arguments.len() > 1 => {
             plain_files::write(&mut BufWriter::new(io::stdout()), &arguments[1..])
         }
@@ -104,9 +132,11 @@ fn check_program(command: &[String]) -> Result<(), String> {
     let guarded = paper_claims::check(&barcodes)?;
     let fixed_refused = record_claims::check()?;
     let files_refused = file_claims::check()?;
+    let files_written = writer_claims::check()?;
     let mut tally = Tally::default();
-    let streams = cases::streams(&barcodes);
-    if let Some(difference) = first_difference(command, streams, None, &mut tally)? {
+    let difference = compare::first_difference(command, cases::streams(), &mut tally)
+        .map_err(|error| format!("cannot talk to {}: {error}", command[0]))?;
+    if let Some(difference) = difference {
         return Err(difference.to_string());
     }
     println!(
@@ -119,6 +149,7 @@ fn check_program(command: &[String]) -> Result<(), String> {
     );
     println!("changed bytes at fixed places of records, all refused: {fixed_refused}");
     println!("changed bytes at guarded places of files, all refused: {files_refused}");
+    println!("files written as they are made, byte for byte: {files_written}");
     println!("{tally}");
     let gaps = tally.gaps();
     if !gaps.is_empty() {
@@ -126,42 +157,4 @@ fn check_program(command: &[String]) -> Result<(), String> {
     }
     println!("second: {} requests agree", tally.requests());
     Ok(())
-}
-
-/// A fault is caught only by a reply that is right by document 01; any other
-/// difference is the program's own and says nothing about the fault.
-fn catch_fault(name: &str, fault: Fault, command: &[String]) -> Result<(), String> {
-    let barcodes = cases::accepted_barcodes();
-    let tally = &mut Tally::default();
-    let difference = if fault.is_about_files() {
-        first_difference(command, cases::file_streams(), Some(fault), tally)?
-    } else {
-        first_difference(command, cases::streams(&barcodes), Some(fault), tally)?
-    };
-    let difference = difference.ok_or_else(|| format!("fault {name} was not caught"))?;
-    if let Difference::Reply {
-        number,
-        request,
-        came,
-        ..
-    } = &difference
-    {
-        if compare::expected_answer(request, None).reply_beside(came) == *came {
-            println!("fault {name} caught at request {number}");
-            return Ok(());
-        }
-    }
-    Err(format!(
-        "the program differs from document 01 itself: {difference}"
-    ))
-}
-
-fn first_difference(
-    command: &[String],
-    streams: impl Iterator<Item = Stream>,
-    fault: Option<Fault>,
-    tally: &mut Tally,
-) -> Result<Option<Difference>, String> {
-    compare::first_difference(command, streams, fault, tally)
-        .map_err(|error| format!("cannot talk to {}: {error}", command[0]))
 }

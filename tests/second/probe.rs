@@ -2,6 +2,7 @@
 //! it asks for.
 
 use crate::record_kinds::Subject;
+use crate::writer_script::{self, Misfit, Step};
 
 pub const HEADER_BYTES: usize = 16;
 /// Neither the lent memory nor the payload may be larger.
@@ -31,15 +32,17 @@ pub enum Op {
     WriteRecord,
     CheckFile,
     CheckLines,
+    WriteFile,
 }
 
-pub const OPS: [Op; 6] = [
+pub const OPS: [Op; 7] = [
     Op::BarcodeToLine,
     Op::LineToBarcode,
     Op::ReadRecord,
     Op::WriteRecord,
     Op::CheckFile,
     Op::CheckLines,
+    Op::WriteFile,
 ];
 
 impl Op {
@@ -51,6 +54,7 @@ impl Op {
             Op::WriteRecord => b'W',
             Op::CheckFile => b'F',
             Op::CheckLines => b'L',
+            Op::WriteFile => b'P',
         }
     }
 
@@ -76,6 +80,7 @@ pub enum Call {
     WriteRecord { subject: Subject, room: usize },
     CheckFile,
     CheckLines,
+    WriteFile { room: usize },
 }
 
 pub fn header(op: u8, direction: u8, room: usize, length: usize) -> Header {
@@ -92,7 +97,7 @@ pub fn announced_length(header: &Header) -> usize {
     six_digits(&header[LENGTH_AT..LINE_FEED_AT]).unwrap_or(0)
 }
 
-fn six_digits(bytes: &[u8]) -> Option<usize> {
+pub fn six_digits(bytes: &[u8]) -> Option<usize> {
     let number = bytes.iter().try_fold(0, |number, byte| {
         let digit = char::from(*byte).to_digit(DECIMAL)?;
         Some(number * DECIMAL + digit)
@@ -149,6 +154,7 @@ impl Request {
                 .map(|subject| Call::WriteRecord { subject, room }),
             Op::CheckFile => self.names_no_record().then_some(Call::CheckFile),
             Op::CheckLines => self.names_no_record().then_some(Call::CheckLines),
+            Op::WriteFile => self.names_no_record().then_some(Call::WriteFile { room }),
         }
     }
 
@@ -164,6 +170,11 @@ impl Request {
             rest = behind;
         }
         Some(calls)
+    }
+
+    /// The steps of a script for the writer, or why the payload is none.
+    pub fn script(&self) -> Result<Vec<Step>, Misfit> {
+        writer_script::from_payload(&self.payload)
     }
 
     fn names_no_record(&self) -> bool {

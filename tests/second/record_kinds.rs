@@ -17,6 +17,13 @@ impl Direction {
         }
     }
 
+    pub fn other(self) -> Direction {
+        match self {
+            Direction::Remittance => Direction::Return,
+            Direction::Return => Direction::Remittance,
+        }
+    }
+
     pub fn boleto_service(self) -> &'static [u8] {
         match self {
             Direction::Remittance => b"03",
@@ -101,10 +108,7 @@ impl Subject {
     }
 
     pub fn in_the_other_direction(self) -> Subject {
-        let direction = match self.direction {
-            Direction::Remittance => Direction::Return,
-            Direction::Return => Direction::Remittance,
-        };
+        let direction = self.direction.other();
         Subject { direction, ..self }
     }
 }

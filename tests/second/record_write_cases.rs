@@ -8,7 +8,7 @@ use crate::record_cases::fields_to_spoil;
 use crate::record_flaws::{self, DATES, TIMES, UNPRINTABLE};
 use crate::record_kinds::{all_subjects, Direction, RecordKind, Subject, DIRECTIONS};
 use crate::record_table::{self as table, Entry, Field, RECORD_BYTES};
-use crate::records::{number_of, Values, DIGITS_OF_A_VALUE};
+use crate::records::{first_too_wide, number_of, Values, DIGITS_OF_A_VALUE};
 
 const ROOMS: [usize; 8] = [0, 1, 239, 240, 241, 242, 300, 1_000];
 const SMALL_ROOMS: [usize; 4] = [0, 1, 120, 239];
@@ -305,16 +305,12 @@ impl WriteCases<'_> {
 }
 
 /// With their index among all fields of the record.
-fn number_fields(kind: RecordKind) -> Vec<(usize, Field)> {
+pub fn number_fields(kind: RecordKind) -> Vec<(usize, Field)> {
     let fields = table::fields(kind).into_iter().enumerate();
     fields.filter(|(_, field)| field.is_number()).collect()
 }
 
-fn first_too_wide(field: Field) -> u64 {
-    (0..field.width()).fold(1, |power, _| power * 10)
-}
-
-fn numbers_in(list: &str) -> Vec<u64> {
+pub fn numbers_in(list: &str) -> Vec<u64> {
     let words = list.split(' ');
     words.map(|digits| number_of(digits.as_bytes())).collect()
 }

@@ -61,7 +61,7 @@ impl Values {
 }
 
 /// Nothing for a non-digit and for a number of more than 64 bits.
-fn sent_number(digits: &[u8]) -> Option<u64> {
+pub fn sent_number(digits: &[u8]) -> Option<u64> {
     digits.iter().try_fold(0_u64, |number, byte| {
         let digit = char::from(*byte).to_digit(10)?;
         number.checked_mul(10)?.checked_add(u64::from(digit))
@@ -74,6 +74,11 @@ pub fn number_of(digits: &[u8]) -> u64 {
     digits.iter().fold(0, |number, digit| {
         number * 10 + u64::from(digit.wrapping_sub(b'0'))
     })
+}
+
+/// The smallest number with more digits than the field.
+pub fn first_too_wide(field: Field) -> u64 {
+    (0..field.width()).fold(1, |power, _| power * 10)
 }
 
 impl RecordRules {
@@ -132,7 +137,7 @@ impl RecordRules {
     }
 
     /// The record as it would be written.
-    fn draft(&self, kind: RecordKind, values: &Values) -> Draft {
+    pub fn draft(&self, kind: RecordKind, values: &Values) -> Draft {
         let mut bytes = values.text.clone();
         let mut too_wide = Vec::new();
         for (field, number) in table::fields(kind).into_iter().zip(&values.numbers) {

@@ -4,41 +4,43 @@
 use std::collections::BTreeMap;
 use std::fmt;
 
-use crate::probe::{Op, Request};
+use crate::probe::{Call, Op, Request};
 use crate::replies::{Answer, Verdict, MALFORMED};
+use crate::script_tally::ScriptTally;
 
 /// One column for each op, and one for all that name no op.
-const COLUMNS: [&str; 7] = ["B", "D", "C", "W", "F", "L", "other"];
-const NO_OP: &str = COLUMNS[6];
+const COLUMNS: [&str; 8] = ["B", "D", "C", "W", "F", "L", "P", "other"];
+const NO_OP: &str = COLUMNS[7];
 const REQUESTS: &str = "requests";
 const ACCEPTED: &str = "OK";
 const MALFORMED_REQUEST: &str = "malformed";
 const FIELD_CHECK: u32 = 42;
 
 /// Each answer with the columns in which it can occur. Reading a file can give
-/// every number from 1 to 23, in a whole file and in single-line calls.
-const ANSWERS: [(&str, &[&str]); 33] = [
-    (ACCEPTED, &["B", "D", "C", "W", "F", "L"]),
+/// every number from 1 to 23, in a whole file and in single-line calls. No
+/// request is long enough for the writer to give 23 or 25.
+const ANSWERS: [(&str, &[&str]); 34] = [
+    (ACCEPTED, &["B", "D", "C", "W", "F", "L", "P"]),
     ("1", &["C", "F", "L"]),
     ("2", &["F", "L"]),
     ("3", &["F", "L"]),
-    ("4", &["C", "W", "F", "L"]),
+    ("4", &["C", "W", "F", "L", "P"]),
     ("5", &["F", "L"]),
     ("6", &["C", "F", "L"]),
     ("7", &["F", "L"]),
-    ("8", &["C", "W", "F", "L"]),
+    ("8", &["C", "W", "F", "L", "P"]),
     ("9", &["F", "L"]),
     ("10", &["F", "L"]),
-    ("11", &["C", "F", "L"]),
-    ("12", &["C", "W", "F", "L"]),
-    ("13", &["C", "W", "F", "L"]),
-    ("14", &["C", "W", "F", "L"]),
-    ("15", &["C", "W", "F", "L"]),
-    ("16", &["F", "L"]),
-    ("17", &["F", "L"]),
-    ("18", &["F", "L"]),
-    ("19", &["F", "L"]),
-    ("20", &["F", "L"]),
+    ("11", &["C", "F", "L", "P"]),
+    ("12", &["C", "W", "F", "L", "P"]),
+    ("13", &["C", "W", "F", "L", "P"]),
+    ("14", &["C", "W", "F", "L", "P"]),
+    ("15", &["C", "W", "F", "L", "P"]),
+    ("16", &["F", "L", "P"]),
+    ("17", &["F", "L", "P"]),
+    ("18", &["F", "L", "P"]),
+    ("19", &["F", "L", "P"]),
+    ("20", &["F", "L", "P"]),
     ("21", &["F", "L"]),
     ("22", &["F", "L"]),
     ("23", &["F", "L"]),
@@ -49,7 +51,8 @@ const ANSWERS: [(&str, &[&str]); 33] = [
     ("42 at 32", &["D"]),
     ("43", &["B", "D"]),
     ("44", &["B", "D"]),
-    ("50", &["B", "D", "W"]),
+    ("50", &["B", "D", "W", "P"]),
+    ("51", &["P"]),
     (MALFORMED_REQUEST, &COLUMNS),
 ];
 
@@ -58,6 +61,7 @@ pub struct Tally {
     /// By answer and column. A request of single-line calls has several answers.
     seen: BTreeMap<(String, &'static str), usize>,
     requests: BTreeMap<&'static str, usize>,
+    scripts: ScriptTally,
 }
 
 impl Tally {
@@ -67,6 +71,9 @@ impl Tally {
         for line in &answer.lines {
             let key = (answer_name(line.verdict), column);
             *self.seen.entry(key).or_default() += 1;
+        }
+        if let Some(Call::WriteFile { room }) = request.call() {
+            self.scripts.count(&request.script(), room);
         }
     }
 
@@ -95,6 +102,7 @@ impl Tally {
         if in_table != self.seen.values().sum() {
             gaps.push("some answers have no place in the table".to_string());
         }
+        gaps.extend(self.scripts.gaps());
         gaps
     }
 }
@@ -144,6 +152,6 @@ impl fmt::Display for Tally {
             let requests = self.requests.get(column).copied().unwrap_or(0);
             write!(out, "{requests:>8}")?;
         }
-        Ok(())
+        write!(out, "\n{}", self.scripts.summary())
     }
 }

@@ -1,7 +1,7 @@
 -- Rules in the paper's order, and the answer: the first that is broken. Assumes nothing.
 use mathlib.Core.Path.{_≡_}
 use mathlib.Core.Bool.{Bool, true, false, cond}
-use mathlib.Core.List.{List, [], _∷_, _++_}
+use mathlib.Core.List.{List, [], _∷_, _++_, map}
 use Prim.Native.Nat.{ℕ}
 use Rattle.answer.specs.declared.LineNo.{LineNo}
 use Rattle.answer.specs.declared.Refusal.{Refusal}
@@ -63,3 +63,6 @@ onLine line (Refused r) = Refused (refusal (r .number) line (r .place))
 
 abbrev pub ruleOnLine : LineNo → Rule → Rule
 ruleOnLine line r = record { refused = refusal (r .refused .number) line (r .refused .place); kept = r .kept }
+
+abbrev pub rulesOnLine : LineNo → List Rule → List Rule
+rulesOnLine line rs = map (ruleOnLine line) rs

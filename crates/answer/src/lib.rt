@@ -1,5 +1,7 @@
 // What the desk answers: three kinds of quantity that can't be taken for one another, and an
 // acceptance or one refusal.
+pub mod numbers;
+
 ghost use mathlib.Core.Path.{_≡_};
 ghost use mathlib.Core.List.{_∷_, []};
 ghost use Prim.Native.Nat.{_+_};
@@ -28,9 +30,6 @@ pub enum Answer {
 
 // Digit strings and one record alone have no line.
 const NO_LINE: LineNo = LineNo(0);
-
-// The paper's number for output that is too short.
-const NO_ROOM: u8 = 50;
 
 const FILE_CENTS: Cents = Cents(1000000000000000000);
 
@@ -94,7 +93,7 @@ impl Answer {
     pub fn room(n: usize, out: &[u8]) -> Answer
         ensures { λ r. ⌜ r ≡ firstBroken (room n (now (out .entry)) ∷ []) ⌝ }
     {
-        Answer::test(NO_ROOM, 0, n <= out.len())
+        Answer::test(numbers::NO_ROOM, 0, n <= out.len())
     }
 
     // This answer where it refuses, else the later one.

@@ -3,6 +3,7 @@
 mod writing;
 
 use answer::Answer;
+use answer::numbers;
 use digits::Modulus;
 use writing::write_barcode;
 use writing::write_line;
@@ -26,17 +27,6 @@ const BARCODE_CHECK: usize = 5;
 
 const LINE_CHECK: usize = 33;
 
-// The paper's numbers.
-const WRONG_LENGTH: u8 = 40;
-
-const NON_DIGIT: u8 = 41;
-
-const FIELD_CHECK: u8 = 42;
-
-const CURRENCY: u8 = 43;
-
-const GENERAL_CHECK: u8 = 44;
-
 pub fn currency_fits(s: &[u8]) -> bool
     ensures { λ r. ⌜ r ≡ currencyFits (now (s .entry)) ⌝ }
 {
@@ -51,13 +41,13 @@ fn check_head(s: &[u8], n: usize) -> Answer
     ensures { λ r. ⌜ r ≡ firstBroken (headRules n (now (s .entry))) ⌝ }
 {
     if s.len() != n {
-        return Answer::refused(WRONG_LENGTH, 0);
+        return Answer::refused(numbers::STRING_LENGTH, 0);
     }
     let leading = digits::leading(s);
     if leading != s.len() {
-        return Answer::refused(NON_DIGIT, leading + 1);
+        return Answer::refused(numbers::STRING_DIGIT, leading + 1);
     }
-    Answer::test(CURRENCY, CURRENCY_PLACE, currency_fits(s))
+    Answer::test(numbers::CURRENCY, CURRENCY_PLACE, currency_fits(s))
 }
 
 // The general check of a barcode.
@@ -71,7 +61,7 @@ pub fn check_barcode(bar: &[u8]) -> Answer
     ensures { λ r. ⌜ r ≡ firstBroken (barcodeRules (now (bar .entry))) ⌝ }
 {
     let head = check_head(bar, BARCODE_DIGITS);
-    head.and_then(Answer::test(GENERAL_CHECK, BARCODE_CHECK, is_sealed(bar)))
+    head.and_then(Answer::test(numbers::STRING_CHECK, BARCODE_CHECK, is_sealed(bar)))
 }
 
 // The check digit at the end of a line's field, which has the places from `first` to `last`.
@@ -80,7 +70,7 @@ fn check_field(line: &[u8], first: usize, last: usize) -> Answer
     ensures { λ r. ⌜ r ≡ firstBroken (fieldRule first last (now (line .entry)) ∷ []) ⌝ }
 {
     let sealed = digits::is_sealed(Modulus::Ten, &line[first - 1..last], last - first);
-    Answer::test(FIELD_CHECK, last, sealed)
+    Answer::test(numbers::FIELD_CHECK, last, sealed)
 }
 
 // The general check of a line is that of its barcode.
@@ -101,7 +91,7 @@ fn check_digits(line: &[u8]) -> Answer
     let first = check_field(line, 1, 10);
     let second = check_field(line, 11, 21);
     let third = check_field(line, 22, 32);
-    let general = Answer::test(GENERAL_CHECK, LINE_CHECK, general_fits(line));
+    let general = Answer::test(numbers::STRING_CHECK, LINE_CHECK, general_fits(line));
     first.and_then(second.and_then(third.and_then(general)))
 }
 

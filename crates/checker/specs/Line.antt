@@ -44,6 +44,13 @@ mostBatches = 70
 abbrev pub mostPayments : ℕ
 mostPayments = 10000
 
+-- the batch number of the file header, and that of the file trailer
+abbrev pub headerBatch : ℕ
+headerBatch = 0
+
+abbrev pub trailerBatch : ℕ
+trailerBatch = 9999
+
 -- the fields that lie from place a to place b
 unfoldable pub within : ℕ → ℕ → List Field → List Field
 within a b [] = []
@@ -94,6 +101,10 @@ houseRules SegmentZ rec = []
 houseRules BatchTrailer rec = []
 houseRules FileTrailer rec = []
 
+-- of a record of the right length
+abbrev pub houseAlone : Record → List ℕ → List Rule
+houseAlone r rec = rule 1 0 (eqb (length rec) recordBytes) ∷ houseRules r rec
+
 -- ---- behind the type, by what the line is read as
 
 unfoldable pub detailRules : Record → Checker → List ℕ → List Rule
@@ -109,7 +120,7 @@ detailRules r s rec =
 unfoldable pub rulesAs : Record → Checker → List ℕ → List Rule
 rulesAs FileHeader s rec =
     rule 8 (bankField .from) (allDigits (part bankField rec))
-    ∷ batchNumber 0 rec
+    ∷ batchNumber headerBatch rec
     ∷ rulesOf (behind typePlace FileHeader) (s .dir) rec
 rulesAs BatchHeader s rec =
     rule 20 typePlace (leb (ordinal s) mostBatches)
@@ -132,7 +143,7 @@ rulesAs BatchTrailer s rec =
     ∷ []
 rulesAs FileTrailer s rec =
     bank s rec
-    ∷ batchNumber 9999 rec
+    ∷ batchNumber trailerBatch rec
     ∷ rulesOf (between typePlace (fileBatches .to) FileTrailer) (s .dir) rec
     ++ reads 21 fileBatches (s .closed .batches) rec
     ∷ rulesOf (between (fileBatches .to) (fileRecords .to) FileTrailer) (s .dir) rec

@@ -3,6 +3,7 @@ use mathlib.Core.Bool.{Bool, cond, _&&_}
 use mathlib.Core.List.{List}
 use Prim.Native.Nat.{ℕ, _+_, _*_, _^_}
 use lib.Dec.{leb, ltb, eqb}
+use lib.ListN.{length}
 use Rattle.answer.specs.Limits.{fileCents}
 use Rattle.answer.specs.Rules.{firstBroken, onLine, refusedAs}
 use Rattle.answer.specs.declared.LineNo.{LineNo}
@@ -11,7 +12,7 @@ use Rattle.answer.specs.declared.Answer.the-variants.{Accepted, Refused}
 use Rattle.digits.specs.Digits.{digitByte, place}
 use Rattle.digits.specs.Numbers.{value}
 use Rattle.layout.specs.Pairs.{batchOf}
-use Rattle.layout.specs.Table.{part, bankField, directionField, serviceField, formField}
+use Rattle.layout.specs.Table.{part, recordBytes, bankField, directionField, serviceField, formField}
 use Rattle.layout.specs.declared.Direction.{Direction}
 use Rattle.layout.specs.declared.Direction.the-variants.{Remittance, Return}
 use Rattle.layout.specs.declared.Record.{Record}
@@ -86,6 +87,10 @@ sound s =
     && (leb (s .current .records .0) batchRecordsMost
     && (leb (s .current .payments) mostPayments
     && leb (s .current .cents .0) batchCentsMost))))))
+
+-- the state behind a record, for whoever has tested it; a state that no run produces, or another length, stays
+abbrev pub withRecord : Record → Checker → List ℕ → Checker
+withRecord r s rec = cond (sound s && eqb (length rec) recordBytes) (next r s rec) s
 
 -- ---- a step
 

@@ -2,6 +2,7 @@
 use super::places;
 use super::totals::amount;
 use answer::Answer;
+use answer::numbers;
 use calendar::Date;
 use layout::Record;
 ghost use mathlib.Core.Path.{_≡_};
@@ -9,15 +10,6 @@ ghost use lib.ListN.{length};
 ghost use Rattle.answer.specs.Rules.{firstBroken};
 ghost use Rattle.layout.specs.Table.{recordBytes};
 ghost use Rattle.checker.specs.Line.{dueFits, centsFit, amountFits, boletoRules, houseRules};
-
-// The paper's numbers.
-const GENERAL_CHECK: u8 = 16;
-
-const DUE_DATE: u8 = 17;
-
-const CENTS: u8 = 18;
-
-const AMOUNT: u8 = 19;
 
 // A factor other than 0 gives the due date.
 fn due_fits(rec: &[u8]) -> bool
@@ -54,10 +46,10 @@ fn check_boleto(rec: &[u8]) -> Answer
     ensures { λ r. ⌜ r ≡ firstBroken (boletoRules (now (rec .entry))) ⌝ }
 {
     let general = boleto::is_sealed(&rec[places::BARCODE_FROM - 1..places::BARCODE_TO]);
-    let check = Answer::test(GENERAL_CHECK, places::GENERAL_CHECK, general);
-    let due = Answer::test(DUE_DATE, places::FACTOR, due_fits(rec));
-    let cents = Answer::test(CENTS, places::CENTS, cents_fit(rec));
-    let amount = Answer::test(AMOUNT, places::BOLETO_AMOUNT, amount_fits(rec));
+    let check = Answer::test(numbers::GENERAL_CHECK, places::GENERAL_CHECK, general);
+    let due = Answer::test(numbers::DUE_DATE, places::FACTOR, due_fits(rec));
+    let cents = Answer::test(numbers::CENTS, places::CENTS, cents_fit(rec));
+    let amount = Answer::test(numbers::AMOUNT, places::BOLETO_AMOUNT, amount_fits(rec));
     check.and_then(due.and_then(cents.and_then(amount)))
 }
 

@@ -2,12 +2,12 @@
 use super::Checker;
 use super::LINE_BYTES;
 use super::Stepped;
-use super::limits::IMPOSSIBLE;
 use super::order;
 use super::totals::Totals;
 use answer::Answer;
 use answer::LineNo;
 use answer::Refusal;
+use answer::numbers;
 ghost use mathlib.Core.Path.{_≡_};
 ghost use Prim.Native.Nat.{_+_, _≤_, min};
 ghost use Rattle.checker.specs.Line.{lineBytes};
@@ -18,9 +18,6 @@ pub enum Outcome {
     Accepted(Totals),
     Refused(Refusal),
 }
-
-// The paper's number for input that ends before a file trailer.
-const UNFINISHED: u8 = 2;
 
 // Where a part of at most one line ends.
 fn part_end(at: usize, len: usize) -> usize
@@ -70,7 +67,7 @@ impl Checker {
         let closed = self.closed;
         if !self.is_sound() {
             return Outcome::Refused(Refusal {
-                number: IMPOSSIBLE,
+                number: numbers::OUT_OF_TURN,
                 line: LineNo(0),
                 place: 0,
             });
@@ -79,7 +76,7 @@ impl Checker {
             return Outcome::Accepted(closed);
         }
         Outcome::Refused(Refusal {
-            number: UNFINISHED,
+            number: numbers::UNFINISHED,
             line: self.line_no(),
             place: 0,
         })

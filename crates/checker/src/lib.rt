@@ -5,22 +5,28 @@ mod limits;
 mod lines;
 mod moves;
 mod order;
-mod places;
+pub mod places;
 mod totals;
 
 use answer::Answer;
 use answer::LineNo;
+use answer::numbers;
 pub use file::Outcome;
 pub use file::check_file;
 use layout::Batch;
 use layout::Direction;
 use layout::RECORD_BYTES;
-use limits::IMPOSSIBLE;
+use layout::Record;
+pub use limits::HEADER_BATCH;
+pub use limits::MOST_BATCHES;
+pub use limits::MOST_PAYMENTS;
+pub use limits::TRAILER_BATCH;
 pub use order::Phase;
 pub use totals::Totals;
 ghost use mathlib.Core.Path.{_≡_};
 ghost use mathlib.Core.Bool.{cond};
-ghost use Rattle.answer.specs.Rules.{noLine};
+ghost use Rattle.answer.specs.Rules.{noLine, firstBroken};
+ghost use Rattle.checker.specs.Line.{houseAlone};
 ghost use Rattle.checker.specs.Machine.{lineOf, sound, stepOf, start};
 ghost use Rattle.checker.specs.Steps.{Bounded};
 
@@ -71,7 +77,7 @@ impl Checker {
         if !self.is_sound() {
             return Stepped {
                 state: self,
-                answer: Answer::refused(IMPOSSIBLE, 0),
+                answer: Answer::refused(numbers::OUT_OF_TURN, 0),
             };
         }
         let answer = self.check(line);
@@ -140,4 +146,14 @@ impl Checker {
             LineNo(0)
         }
     }
+}
+
+// What the house asks of a record beyond its fields: 16 to 19, of a J.
+pub fn check_house(which: Record, rec: &[u8]) -> Answer
+    ensures { λ r. ⌜ r ≡ firstBroken (houseAlone which (now (rec .entry))) ⌝ }
+{
+    if rec.len() != RECORD_BYTES {
+        return Answer::refused(numbers::WRONG_LENGTH, 0);
+    }
+    boletos::check_house(which, rec)
 }

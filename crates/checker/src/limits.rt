@@ -3,10 +3,15 @@ use super::Checker;
 ghost use mathlib.Core.Path.{_≡_};
 ghost use Rattle.checker.specs.Machine.{sound};
 
-pub(crate) const MOST_BATCHES: u64 = 70;
+pub const MOST_BATCHES: u64 = 70;
 
 // Of a batch.
-pub(crate) const MOST_PAYMENTS: u64 = 10000;
+pub const MOST_PAYMENTS: u64 = 10000;
+
+// The batch numbers of the file header and of the file trailer.
+pub const HEADER_BATCH: u64 = 0;
+
+pub const TRAILER_BATCH: u64 = 9999;
 
 // What no run passes: a payment has at most three records, and an amount 15 digits.
 const BATCH_RECORDS: u64 = 30001;
@@ -19,12 +24,9 @@ const FILE_PAYMENTS: u64 = 700000;
 
 const FILE_CENTS: u64 = 1000000000000000000;
 
-// The paper's number for a call out of turn; here for a state that no run produces.
-pub(crate) const IMPOSSIBLE: u8 = 51;
-
 impl Checker {
     // With these bounds no sum of a line can wrap.
-    pub(crate) fn is_sound(self) -> bool
+    pub fn is_sound(self) -> bool
         ensures { λ r. ⌜ r ≡ sound self ⌝ }
     {
         (self.closed.batches <= MOST_BATCHES)

@@ -2,13 +2,16 @@
 use super::Checker;
 use super::LINE_BYTES;
 use super::boletos::check_house;
+use super::limits::HEADER_BATCH;
 use super::limits::MOST_BATCHES;
 use super::limits::MOST_PAYMENTS;
+use super::limits::TRAILER_BATCH;
 use super::order;
 use super::order::Due;
 use super::places;
 use super::totals::payments_of;
 use answer::Answer;
+use answer::numbers;
 use digits::Number;
 use layout::FIELDS;
 use layout::RECORD_BYTES;
@@ -26,36 +29,6 @@ ghost use Rattle.layout.specs.Table.{recordBytes, segmentPlace};
 ghost use Rattle.layout.specs.Record.{rulesOf};
 ghost use Rattle.checker.specs.Line.{bank, batchNumber, behind, houseRules, detailRules, rulesAs, lineBytes, lineIs, typeRules, lineRules, rulesOfLine};
 ghost use Rattle.checker.specs.Steps.{segmentFits, isDetail, Bounded};
-
-// The paper's numbers.
-const LENGTH: u8 = 1;
-
-const BEHIND_END: u8 = 3;
-
-const LINE_END: u8 = 5;
-
-const TYPE: u8 = 6;
-
-const BANK: u8 = 7;
-
-const NON_DIGIT: u8 = 8;
-
-const BATCH: u8 = 9;
-
-const DETAIL: u8 = 10;
-
-const SEGMENT: u8 = 11;
-
-const TOO_MANY: u8 = 20;
-
-const COUNT: u8 = 21;
-
-const SUM: u8 = 22;
-
-const FILE_SUM: u8 = 23;
-
-// The batch number of the file trailer.
-const LAST_BATCH: u64 = 9999;
 
 // The index of the first field behind the type, and behind the segment.
 const BEHIND_TYPE: usize = 3;
@@ -77,7 +50,7 @@ fn check_batch(k: u64, rec: &[u8]) -> Answer
     ensures { λ r. ⌜ r ≡ firstBroken (batchNumber k (now (rec .entry)) ∷ []) ⌝ }
 {
     check_reads(
-        BATCH,
+        numbers::BATCH,
         places::BATCH_FROM,
         k,
         &rec[places::BATCH_FROM - 1..places::BATCH_TO],
@@ -107,7 +80,7 @@ impl Checker {
         ensures { λ r. ⌜ r ≡ firstBroken (bank self (now (rec .entry)) ∷ []) ⌝ }
     {
         check_reads(
-            BANK,
+            numbers::BANK,
             places::BANK_FROM,
             self.bank,
             &rec[places::BANK_FROM - 1..places::BANK_TO],
@@ -120,8 +93,8 @@ impl Checker {
     {
         let dir = self.dir;
         let spelled = digits::all_digits(&rec[places::BANK_FROM - 1..places::BANK_TO]);
-        let bank = Answer::test(NON_DIGIT, places::BANK_FROM, spelled);
-        let batch = check_batch(0, rec);
+        let bank = Answer::test(numbers::NON_DIGIT, places::BANK_FROM, spelled);
+        let batch = check_batch(HEADER_BATCH, rec);
         let fields = layout::check_fields(rec, Record::FileHeader, dir, BEHIND_TYPE, FIELDS);
         bank.and_then(batch.and_then(fields))
     }
@@ -133,7 +106,7 @@ impl Checker {
     {
         let dir = self.dir;
         let ordinal = self.closed.batches + 1;
-        let limit = Answer::test(TOO_MANY, places::TYPE, ordinal <= MOST_BATCHES);
+        let limit = Answer::test(numbers::TOO_MANY, places::TYPE, ordinal <= MOST_BATCHES);
         let bank = self.check_bank(rec);
         let batch = check_batch(ordinal, rec);
         let fields = layout::check_fields(rec, Record::BatchHeader, dir, BEHIND_TYPE, FIELDS);
@@ -161,11 +134,16 @@ impl Checker {
         let bank = self.check_bank(rec);
         let batch = check_batch(self.closed.batches + 1, rec);
         let place = &rec[places::NUMBER_FROM - 1..places::NUMBER_TO];
-        let number = check_reads(DETAIL, places::NUMBER_FROM, self.current.records.0, place);
+        let number = check_reads(
+            numbers::DETAIL,
+            places::NUMBER_FROM,
+            self.current.records.0,
+            place,
+        );
         let fits = segment_fits(which, rec[places::SEGMENT - 1]);
-        let segment = Answer::test(SEGMENT, places::SEGMENT, fits);
+        let segment = Answer::test(numbers::SEGMENT, places::SEGMENT, fits);
         let few = self.current.payments + payments_of(which) <= MOST_PAYMENTS;
-        let limit = Answer::test(TOO_MANY, places::SEGMENT, few);
+        let limit = Answer::test(numbers::TOO_MANY, places::SEGMENT, few);
         let head = bank.and_then(batch.and_then(number.and_then(segment.and_then(limit))));
         match head {
             Answer::Accepted => self.check_body(which, rec),
@@ -186,20 +164,20 @@ impl Checker {
         let front = layout::check_fields(rec, which, dir, BEHIND_TYPE, behind);
         let place = &rec[places::FIRST_COUNT_FROM - 1..places::FIRST_COUNT_TO];
         let records = check_reads(
-            COUNT,
+            numbers::COUNT,
             places::FIRST_COUNT_FROM,
             self.current.records.0 + 1,
             place,
         );
         let fields = layout::check_fields(rec, which, dir, behind, FIELDS);
         let sum = check_reads(
-            SUM,
+            numbers::SUM,
             places::SUM_FROM,
             self.current.cents.0,
             &rec[places::SUM_FROM - 1..places::SUM_TO],
         );
         let total = Answer::test(
-            FILE_SUM,
+            numbers::FILE_SUM,
             places::SUM_FROM,
             self.closed.cents.fit_a_file(self.current.cents),
         );
@@ -215,16 +193,21 @@ impl Checker {
         let dir = self.dir;
         let which = Record::FileTrailer;
         let bank = self.check_bank(rec);
-        let batch = check_batch(LAST_BATCH, rec);
+        let batch = check_batch(TRAILER_BATCH, rec);
         let behind_batches = names::FILE_TRAILER_BATCHES + 1;
         let behind_records = names::FILE_TRAILER_RECORDS + 1;
         let front = layout::check_fields(rec, which, dir, BEHIND_TYPE, behind_batches);
         let place = &rec[places::FIRST_COUNT_FROM - 1..places::FIRST_COUNT_TO];
-        let batches = check_reads(COUNT, places::FIRST_COUNT_FROM, self.closed.batches, place);
+        let batches = check_reads(
+            numbers::COUNT,
+            places::FIRST_COUNT_FROM,
+            self.closed.batches,
+            place,
+        );
         let middle = layout::check_fields(rec, which, dir, behind_batches, behind_records);
         let place = &rec[places::RECORDS_FROM - 1..places::RECORDS_TO];
         let records = check_reads(
-            COUNT,
+            numbers::COUNT,
             places::RECORDS_FROM,
             self.closed.records.0 + 1,
             place,
@@ -279,7 +262,7 @@ impl Checker {
         let due = self.line_is(rec);
         match due {
             Due::Line(which) => self.check_as(which, rec),
-            Due::Nothing => Answer::refused(TYPE, places::TYPE),
+            Due::Nothing => Answer::refused(numbers::TYPE, places::TYPE),
         }
     }
 
@@ -292,8 +275,8 @@ impl Checker {
     {
         let rec = &line[0..RECORD_BYTES];
         let clean = layout::check_bytes(rec);
-        let cr = Answer::test(LINE_END, places::CR, line[places::CR - 1] == b'\r');
-        let lf = Answer::test(LINE_END, places::LF, line[places::LF - 1] == b'\n');
+        let cr = Answer::test(numbers::LINE_END, places::CR, line[places::CR - 1] == b'\r');
+        let lf = Answer::test(numbers::LINE_END, places::LF, line[places::LF - 1] == b'\n');
         let ends = clean.and_then(cr.and_then(lf));
         match ends {
             Answer::Accepted => self.check_due(rec),
@@ -308,10 +291,10 @@ impl Checker {
     {
         let phase = self.phase;
         if order::is_ended(phase) {
-            return Answer::refused(BEHIND_END, 0);
+            return Answer::refused(numbers::BEHIND_END, 0);
         }
         if line.len() != LINE_BYTES {
-            return Answer::refused(LENGTH, 0);
+            return Answer::refused(numbers::WRONG_LENGTH, 0);
         }
         self.check_line(line)
     }

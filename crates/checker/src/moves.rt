@@ -7,13 +7,14 @@ use super::totals::Totals;
 use super::totals::counted;
 use layout::Batch;
 use layout::Direction;
+use layout::RECORD_BYTES;
 use layout::Record;
 ghost use mathlib.Core.Path.{_≡_};
 ghost use lib.ListN.{length};
 ghost use Rattle.layout.specs.Table.{recordBytes};
 ghost use Rattle.checker.specs.Order.{after};
 ghost use Rattle.checker.specs.Line.{lineIs};
-ghost use Rattle.checker.specs.Machine.{state, directionOf, inBatch, next, moved};
+ghost use Rattle.checker.specs.Machine.{state, directionOf, inBatch, next, moved, withRecord};
 ghost use Rattle.checker.specs.Steps.{Bounded};
 
 fn direction_of(rec: &[u8]) -> Direction
@@ -136,6 +137,20 @@ impl Checker {
             Record::BatchTrailer => self.closed_batch(rec),
             Record::FileTrailer => self.ended(rec),
         }
+    }
+
+    // The state behind a record, for whoever has tested it, as a writer has. A state that no run
+    // produces, or a record of another length, leaves it.
+    pub fn with_record(self, which: Record, rec: &[u8]) -> Checker
+        ensures { λ r. ⌜ r ≡ withRecord which self (now (rec .entry)) ⌝ }
+    {
+        if !self.is_sound() {
+            return self;
+        }
+        if rec.len() != RECORD_BYTES {
+            return self;
+        }
+        self.after(which, rec)
     }
 
     // The state behind an accepted line, whatever it is read as.

@@ -11,12 +11,12 @@ use lib.Seq.{take-at, drop-at, drop-drop, length-take-le, slice, slice-cons, sli
 use Rattle.digits.specs.Digits.{places}
 use Rattle.layout.specs.Table.{Field, field, part, fieldsOf, recordBytes, tiles, none}
 use Rattle.layout.specs.Kinds.{means}
-use Rattle.layout.specs.Lent.{all, kindOf, fieldCount}
+use Rattle.layout.specs.Lent.{over, all, kindOf, fieldCount}
 use Rattle.layout.specs.laws.Tiling.{tiled, ends, All}
 use Rattle.layout.specs.laws.Sound.{width, Sound, sounds}
 use Rattle.layout.specs.laws.Columns.{Stands, all-length}
 use Rattle.layout.specs.declared.Record.{Record}
-use Rattle.fields.specs.Values.{heldAs, rendered, joined}
+use Rattle.fields.specs.Values.{heldAs, rendered, joined, overField}
 use Rattle.fields.specs.laws.Parts.{first}
 
 -- bytes put over a field's places
@@ -44,6 +44,10 @@ put-more f past start {from} {to} {k} ns text out new b h l s q =
 pub put-end : (f past : ℕ) (ns text out : List ℕ) → f ≤ past → past ≤ f → putFields (slice f past all) ns text out ≡ out
 unfolding putFields
 put-end f past ns text out h l = rw (le-antisymm h l, slice-empty)
+
+-- what a field's part holds behind bytes copied over it, put there
+pub put-over : (f : Field) (bs text : List ℕ) → f .from - 1 ≤ f .to → put f (over bs (part f text)) text ≡ overField f bs text
+put-over f bs text h = let m : f .from - 1 + width f ≡ f .to = omega arith in rw (drop-drop, m)
 
 -- bytes bs put from a up to e
 module _ (a e : ℕ) (out bs : List ℕ) (h : a ≤ e) (l : e ≤ recordBytes) (k : recordBytes ≤ length out) (n : length bs ≡ e - a) where

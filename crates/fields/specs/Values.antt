@@ -2,8 +2,8 @@
 use mathlib.Core.Bool.{Bool, true, false, cond, _&&_}
 use mathlib.Core.List.{List, [], _∷_, _++_}
 use Prim.Native.Nat.{ℕ, _-_}
-use lib.Dec.{ltb}
-use lib.ListN.{length, getD, drop, set, replicate}
+use lib.Dec.{leb, ltb}
+use lib.ListN.{length, getD, take, drop, set, replicate}
 use Rattle.answer.specs.Rules.{firstBroken}
 use Rattle.answer.specs.declared.Answer.{Answer}
 use Rattle.answer.specs.declared.Answer.the-variants.{Accepted, Refused}
@@ -11,8 +11,9 @@ use Rattle.digits.specs.Numbers.{numberOf, numeral}
 use Rattle.digits.specs.declared.spelling.Number.{Number}
 use Rattle.digits.specs.declared.spelling.Number.the-variants.{Is, Not}
 use Rattle.layout.specs.Table.{Field, part, fieldsOf, recordBytes, none}
-use Rattle.layout.specs.Kinds.{Held, asNumber, asBytes, asFixed, means}
+use Rattle.layout.specs.Kinds.{Held, asNumber, asBytes, asFixed, means, blank}
 use Rattle.layout.specs.Record.{recordRules}
+use Rattle.layout.specs.Lent.{over}
 use Rattle.layout.specs.declared.Direction.{Direction}
 use Rattle.layout.specs.declared.Record.{Record}
 use Rattle.fields.specs.declared.Fields.{Fields}
@@ -36,6 +37,10 @@ joined (f ∷ fs) ns text = rendered (heldAs f) (getD ns 0 0) (part f text) ++ j
 
 unfoldable pub recordOf : Record → Fields → List ℕ
 recordOf r v = joined (fieldsOf r) (v .numbers) (v .text)
+
+-- a record over the first bytes of output that has room for it
+abbrev pub laid : List ℕ → List ℕ → List ℕ
+laid rec out = cond (leb recordBytes (length out)) (rec ++ drop recordBytes out) out
 
 -- ---- reading
 
@@ -64,6 +69,10 @@ fieldsIn r rec = record { numbers = numbersIn (fieldsOf r) rec ++ replicate (mos
 abbrev pub noFields : Fields
 noFields = record { numbers = replicate mostFields 0; text = replicate recordBytes 0 }
 
+-- the same with blanks for text
+abbrev pub blankFields : Fields
+blankFields = record { numbers = replicate mostFields 0; text = replicate recordBytes blank }
+
 abbrev pub fieldsIf : Answer → Fields → Fields
 fieldsIf Accepted v = v
 fieldsIf (Refused r) v = noFields
@@ -89,6 +98,19 @@ numberAt j v = cond (ltb j mostFields) (getD (v .numbers) j 0) 0
 
 abbrev pub withNumber : ℕ → ℕ → Fields → Fields
 withNumber j n v = record { numbers = cond (ltb j mostFields) (set (v .numbers) j n) (v .numbers); text = v .text }
+
+-- ---- one field's text
+
+-- bytes over the first places of a field, as many as both have
+abbrev pub overField : Field → List ℕ → List ℕ → List ℕ
+overField f bs text = take (f .from - 1) text ++ (over bs (part f text) ++ drop (f .to) text)
+
+-- so of a record's field; past the last there is none
+abbrev pub textWith : Record → ℕ → List ℕ → List ℕ → List ℕ
+textWith r j bs text = cond (ltb j (length (fieldsOf r))) (overField (getD (fieldsOf r) j none) bs text) text
+
+abbrev pub withText : Record → ℕ → List ℕ → Fields → Fields
+withText r j bs v = record { numbers = v .numbers; text = textWith r j bs (v .text) }
 
 -- ---- what a caller gives for a field, or reads of it; fixed content is neither
 

@@ -4,10 +4,10 @@ use layout::FIELDS;
 use layout::Fill;
 use layout::Record;
 ghost use mathlib.Core.Path.{_≡_};
-ghost use Prim.Native.Nat.{_<_};
+ghost use Prim.Native.Nat.{_+_, _<_};
 ghost use lib.ListN.{length};
 ghost use Rattle.layout.specs.Table.{fieldsOf};
-ghost use Rattle.layout.specs.Lent.{fieldCount, Columns};
+ghost use Rattle.layout.specs.Lent.{fieldCount, startOf, Columns};
 ghost use Rattle.layout.specs.laws.Columns.{Stands};
 ghost use Rattle.fields.specs.Values.{isNumberAt};
 
@@ -25,6 +25,18 @@ pub(crate) fn field_at(
     layout::entry_at(from, to, kind, f)
 }
 
+// A field of a record.
+pub(crate) fn entry_of(which: Record, field: usize) -> Entry
+    requires { ⌜ field < length (fieldsOf which) ⌝ }
+    ensures { λ r. ⌜ Stands (startOf which + field) (r .from) (r .to) (r .kind) ⌝ }
+{
+    let from = layout::FROM;
+    let to = layout::TO;
+    let kind = layout::KIND;
+    let s = layout::span_of(which);
+    field_at(&from, &to, &kind, s.first + field)
+}
+
 // How many fields a record has.
 pub fn count(which: Record) -> usize
     ensures { λ r. ⌜ r ≡ length (fieldsOf which) ⌝ }
@@ -40,11 +52,7 @@ pub fn is_number(which: Record, field: usize) -> bool
     if count(which) <= field {
         return false;
     }
-    let from = layout::FROM;
-    let to = layout::TO;
-    let kind = layout::KIND;
-    let s = layout::span_of(which);
-    let e = field_at(&from, &to, &kind, s.first + field);
+    let e = entry_of(which, field);
     let k = e.kind;
     match layout::fill_of(k) {
         Fill::Number => true,

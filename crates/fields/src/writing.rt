@@ -18,7 +18,7 @@ ghost use Rattle.layout.specs.Kinds.{means};
 ghost use Rattle.layout.specs.Record.{recordRules};
 ghost use Rattle.layout.specs.Lent.{kindOf, fixedText, Columns};
 ghost use Rattle.layout.specs.Steps.{mayBe};
-ghost use Rattle.fields.specs.Values.{rendered, recordOf};
+ghost use Rattle.fields.specs.Values.{rendered, recordOf, laid};
 
 // One field, over its part of the output: the caller's number or text, or the fixed byte string.
 fn write_field(k: u8, n: u64, text: &[u8], fixed: &[u8], part: &mut [u8])
@@ -85,4 +85,19 @@ pub fn write_record(v: Fields, which: Record, dir: Direction, out: &mut [u8]) ->
         }
         Answer::Refused(_) => answer,
     }
+}
+
+// Lays the record that fields make over the output's first bytes, whether it is right or not; output
+// that is too short is left.
+pub fn put_record(v: Fields, which: Record, out: &mut [u8])
+    ensures { λ _. ⌜ now (out .exit) ≡ laid (recordOf which v) (now (out .entry)) ⌝ }
+{
+    if out.len() < RECORD_BYTES {
+        return;
+    }
+    let from = layout::FROM;
+    let to = layout::TO;
+    let kind = layout::KIND;
+    let fixed = layout::fixed_text();
+    render(&from, &to, &kind, &fixed, v, which, out);
 }

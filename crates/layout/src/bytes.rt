@@ -1,5 +1,6 @@
 // Bytes: the byte check, each from 32 to 126, and bytes copied over others.
 use answer::Answer;
+use answer::numbers;
 ghost use mathlib.Core.Path.{_≡_};
 ghost use mathlib.Core.List.{_∷_, []};
 ghost use Rattle.answer.specs.Rules.{firstBroken};
@@ -9,9 +10,6 @@ ghost use Rattle.layout.specs.Lent.{over};
 const LOWEST: u8 = 32;
 
 const HIGHEST: u8 = 126;
-
-// The paper's number for another byte.
-const NOT_PRINTABLE: u8 = 4;
 
 // Yes or no, without an early exit: the compiler looks at many bytes at once.
 fn is_clean(rec: &[u8]) -> bool
@@ -41,7 +39,7 @@ pub fn check_bytes(rec: &[u8]) -> Answer
         }
         let b = rec[i];
         if !((LOWEST <= b) & (b <= HIGHEST)) {
-            break 'bytes Answer::refused(NOT_PRINTABLE, i + 1);
+            break 'bytes Answer::refused(numbers::NOT_PRINTABLE, i + 1);
         }
         i += 1;
     }

@@ -9,6 +9,7 @@ mod table;
 mod walk;
 
 use answer::Answer;
+use answer::numbers;
 pub use bytes::check_bytes;
 pub use bytes::copy;
 pub use kinds::Fill;
@@ -48,16 +49,13 @@ pub enum Record {
 
 pub const RECORD_BYTES: usize = 240;
 
-// The paper's number for a record of another length.
-const WRONG_LENGTH: u8 = 1;
-
 // One record alone: its length, its bytes, its type and segment, then all its fields. The table and
 // the fixed byte strings are bound here, once a record, and lent down.
 pub fn check_record(rec: &[u8], which: Record, dir: Direction) -> Answer
     ensures { λ r. ⌜ r ≡ firstBroken (recordRules which dir (now (rec .entry))) ⌝ }
 {
     if rec.len() != RECORD_BYTES {
-        return Answer::refused(WRONG_LENGTH, 0);
+        return Answer::refused(numbers::WRONG_LENGTH, 0);
     }
     let from = FROM;
     let to = TO;
@@ -75,7 +73,7 @@ pub fn check_fields(rec: &[u8], which: Record, dir: Direction, first: usize, pas
     ensures { λ r. ⌜ r ≡ firstBroken (someRules which dir first past (now (rec .entry))) ⌝ }
 {
     if rec.len() != RECORD_BYTES {
-        return Answer::refused(WRONG_LENGTH, 0);
+        return Answer::refused(numbers::WRONG_LENGTH, 0);
     }
     let from = FROM;
     let to = TO;

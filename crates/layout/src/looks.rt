@@ -5,6 +5,7 @@ use super::kinds::mark_at;
 use super::pairs;
 use super::pairs::Batch;
 use answer::Answer;
+use answer::numbers;
 ghost use mathlib.Core.Path.{_≡_};
 ghost use mathlib.Core.List.{[]};
 ghost use Prim.Native.Nat.{_≤_};
@@ -17,21 +18,6 @@ ghost use Rattle.layout.specs.Lent.{firstMark, lastMark, kindOf};
 ghost use Rattle.layout.specs.Steps.{mayBe, Looked, markLook, textLook};
 ghost use Rattle.layout.specs.declared.Direction.the-variants.{Remittance};
 ghost use Rattle.layout.specs.declared.looks.Look.the-variants.{Text};
-
-// The paper's numbers.
-const TYPE: u8 = 6;
-
-pub(crate) const NON_DIGIT: u8 = 8;
-
-const SEGMENT: u8 = 11;
-
-const FIXED: u8 = 12;
-
-const TEXT: u8 = 13;
-
-const DOMAIN: u8 = 14;
-
-const DATE: u8 = 15;
 
 // Places of the service and the form.
 const SERVICE_FROM: usize = 10;
@@ -70,9 +56,13 @@ fn barcode(part: &[u8], place: usize) -> Answer
     requires { ⌜ place ≤ recordBytes ⌝ }
     ensures { λ r. ⌜ r ≡ firstBroken (barcodeRules (aPart place (now (part .entry)) [] Remittance)) ⌝ }
 {
-    let digits = Answer::test(NON_DIGIT, place, digits::all_digits(part));
+    let digits = Answer::test(numbers::NON_DIGIT, place, digits::all_digits(part));
     let currency = boleto::currency_fits(part);
-    digits.and_then(Answer::test(DOMAIN, place + (boleto::CURRENCY_PLACE - 1), currency))
+    digits.and_then(Answer::test(
+        numbers::DOMAIN,
+        place + (boleto::CURRENCY_PLACE - 1),
+        currency,
+    ))
 }
 
 // Service and form, which stand in the record.
@@ -85,7 +75,7 @@ fn pair(rec: &[u8], dir: Direction) -> Answer
     match pairs::batch_of(dir, service, form) {
         Batch::Credit => Answer::Accepted,
         Batch::Boleto => Answer::Accepted,
-        Batch::Unknown => Answer::refused(DOMAIN, SERVICE_FROM),
+        Batch::Unknown => Answer::refused(numbers::DOMAIN, SERVICE_FROM),
     }
 }
 
@@ -96,10 +86,13 @@ fn mark(k: u8) -> Look
 {
     let at = mark_at(k);
     if k < b'A' {
-        Look::Text { number: TYPE, at }
+        Look::Text {
+            number: numbers::TYPE,
+            at,
+        }
     } else {
         Look::Text {
-            number: SEGMENT,
+            number: numbers::SEGMENT,
             at,
         }
     }
@@ -116,7 +109,7 @@ fn text(part: &[u8]) -> Look
         return Look::Tested(Answer::Accepted);
     }
     Look::Text {
-        number: TEXT,
+        number: numbers::TEXT,
         at: kinds::BLANKS_AT,
     }
 }
@@ -124,7 +117,10 @@ fn text(part: &[u8]) -> Look
 fn fixed_at(at: usize) -> Look
     ensures { λ r. ⌜ r ≡ Text 12 at ⌝ }
 {
-    Look::Text { number: FIXED, at }
+    Look::Text {
+        number: numbers::FIXED,
+        at,
+    }
 }
 
 // The rule of each kind, for a field from this place on.
@@ -140,8 +136,8 @@ pub(crate) fn look_at(k: u8, dir: Direction, part: &[u8], rec: &[u8], place: usi
         kinds::N => Look::Digits,
         kinds::ID => Look::Digits,
         kinds::T => text(part),
-        kinds::D => Look::Tested(Answer::test(DATE, place, calendar::date_fits(part))),
-        kinds::TIME => Look::Tested(Answer::test(DATE, place, calendar::time_fits(part))),
+        kinds::D => Look::Tested(Answer::test(numbers::DATE, place, calendar::date_fits(part))),
+        kinds::TIME => Look::Tested(Answer::test(numbers::DATE, place, calendar::time_fits(part))),
         kinds::K => fixed_at(kinds::BLANKS_AT),
         kinds::O => match dir {
             Direction::Remittance => fixed_at(kinds::BLANKS_AT),
@@ -151,9 +147,13 @@ pub(crate) fn look_at(k: u8, dir: Direction, part: &[u8], rec: &[u8], place: usi
         kinds::EXACT_C => fixed_at(kinds::C_AT),
         kinds::EXACT_09 => fixed_at(kinds::CODE_09_AT),
         kinds::EXACT_52 => fixed_at(kinds::CODE_52_AT),
-        kinds::ZERO_ONE_TWO => Look::Tested(Answer::test(DOMAIN, place, one_of(b"012", part))),
-        kinds::ZERO_NINE => Look::Tested(Answer::test(DOMAIN, place, one_of(b"09", part))),
-        kinds::ONE_TWO => Look::Tested(Answer::test(DOMAIN, place, one_of(b"12", part))),
+        kinds::ZERO_ONE_TWO => Look::Tested(Answer::test(
+            numbers::DOMAIN,
+            place,
+            one_of(b"012", part),
+        )),
+        kinds::ZERO_NINE => Look::Tested(Answer::test(numbers::DOMAIN, place, one_of(b"09", part))),
+        kinds::ONE_TWO => Look::Tested(Answer::test(numbers::DOMAIN, place, one_of(b"12", part))),
         kinds::SERVICE => Look::Tested(pair(rec, dir)),
         kinds::FORM => Look::Tested(pair(rec, dir)),
         kinds::BARCODE => Look::Tested(barcode(part, place)),

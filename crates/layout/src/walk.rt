@@ -3,7 +3,6 @@ use super::Direction;
 use super::Record;
 use super::kinds::is_whole;
 use super::looks::Look;
-use super::looks::NON_DIGIT;
 use super::looks::look_at;
 use super::masks;
 use super::table;
@@ -11,6 +10,7 @@ use super::table::Entry;
 use super::table::FIELDS;
 use super::table::wide;
 use answer::Answer;
+use answer::numbers;
 ghost use mathlib.Core.Path.{_≡_};
 ghost use Prim.Native.Nat.{_≤_, _<_, min};
 ghost use lib.ListN.{length};
@@ -82,7 +82,7 @@ fn walk(
                 while i < part.len() {
                     let b = part[i];
                     if !((b'0' <= b) & (b <= b'9')) {
-                        break 'fields Answer::refused(NON_DIGIT, place);
+                        break 'fields Answer::refused(numbers::NON_DIGIT, place);
                     }
                     i += 1;
                 }

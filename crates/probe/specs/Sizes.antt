@@ -22,3 +22,17 @@ pub record Announced (r : Number) : Type 0 where
 -- how many digits a payload has for a field's number
 abbrev pub numberDigits : ℕ
 numberDigits = 20
+
+-- as many numbers as fields may have
+abbrev pub mostNumbers : ℕ
+mostNumbers = 32
+
+-- a step of a script: its head, the most records of a call, and the bytes of the longest
+abbrev pub headBytes : ℕ
+headBytes = 2
+
+abbrev pub mostRecords : ℕ
+mostRecords = 3
+
+abbrev pub mostStep : ℕ
+mostStep = 2645

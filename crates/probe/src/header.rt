@@ -25,10 +25,11 @@ pub(crate) enum Op {
     WriteRecord(Record, Direction),
     CheckFile,
     StepLines,
+    Script,
     Malformed,
 }
 
-enum Asked {
+pub(crate) enum Asked {
     Of(Record),
     Unknown,
 }
@@ -52,7 +53,7 @@ pub(crate) fn announced(head: &[u8], from: usize) -> Number
     digits::number_of(&head[from..from + DIGITS])
 }
 
-fn record_of(kind: u8) -> Asked {
+pub(crate) fn record_of(kind: u8) -> Asked {
     match kind {
         b'0' => Asked::Of(Record::FileHeader),
         b'1' => Asked::Of(Record::BatchHeader),
@@ -107,6 +108,7 @@ fn op_of(op: u8, kind: u8, direction: u8) -> Op {
         b'W' => record_op(op, kind, direction),
         b'F' => plain_op(Op::CheckFile, kind, direction),
         b'L' => plain_op(Op::StepLines, kind, direction),
+        b'P' => plain_op(Op::Script, kind, direction),
         _ => Op::Malformed,
     }
 }

@@ -9,10 +9,18 @@
 // digits for each field, and then the text. F checks a whole file, and its line is the program's. L
 // steps over lines: the payload has calls, each six digits for a length and so many bytes; there is a
 // line for each call, and then one for the end, as of F.
+//
+// P writes a file: the payload is a script of the writer's calls. A call is a letter (O opens the
+// file, L a batch, P pays, C closes the batch, E the file), a digit for the number of its records (1,
+// of a payment 2 or 3), and the records, each its kind, 32 numbers of 20 digits and 240 bytes of text.
+// Two more steps are no calls: M and six digits, from where on calls are lent so many bytes of the
+// output memory, or all it has; X and a byte, with which the whole of it is overwritten. There is a
+// line for each call, of an accepted E as of F, and then the output memory.
 mod files;
 mod header;
 mod records;
 mod reply;
+mod scripts;
 
 use header::Op;
 use libc::STDIN_FILENO;
@@ -31,17 +39,17 @@ const HEADER_BYTES: usize = 16;
 // What output memory holds before a call.
 const UNTOUCHED: u8 = 170;
 
-fn fill(out: &mut [u8]) {
+fn fill(out: &mut [u8], byte: u8) {
     let mut i = 0;
     while i < out.len() {
-        out[i] = UNTOUCHED;
+        out[i] = byte;
         i += 1;
     }
 }
 
 // Makes the call, and writes its answer and the output memory.
 fn call(op: Op, payload: &[u8], out: &mut [u8]) {
-    fill(out);
+    fill(out, UNTOUCHED);
     match op {
         Op::BarcodeToLine => reply::memory(boleto::barcode_to_line(payload, out), out),
         Op::LineToBarcode => reply::memory(boleto::line_to_barcode(payload, out), out),
@@ -49,6 +57,7 @@ fn call(op: Op, payload: &[u8], out: &mut [u8]) {
         Op::WriteRecord(which, dir) => records::write(payload, which, dir, out),
         Op::CheckFile => files::check(payload),
         Op::StepLines => files::step_lines(payload),
+        Op::Script => scripts::run(payload, out),
         Op::Malformed => reply::malformed(),
     }
 }

@@ -9,20 +9,23 @@ use layout::Record;
 ghost use mathlib.Core.Path.{_≡_};
 ghost use Prim.Native.Nat.{_≤_};
 ghost use lib.ListN.{length};
-ghost use Rattle.probe.specs.Sizes.{numberDigits};
+ghost use Rattle.probe.specs.Sizes.{numberDigits, mostNumbers};
+
+// As many numbers as fields may have.
+pub(crate) const MOST_NUMBERS: usize = 32;
 
 // How many digits a payload has for a number: as many as 64 bits may need, one more than are read at
 // once.
-const NUMBER_DIGITS: usize = 20;
+pub(crate) const NUMBER_DIGITS: usize = 20;
 
 // What the first of them counts, and the most that may follow a 1.
 const FIRST_DIGIT: u64 = 10000000000000000000;
 
 const MOST_BEHIND_ONE: u64 = 8446744073709551615;
 
-struct Given {
-    right: bool,
-    fields: Fields,
+pub(crate) struct Given {
+    pub(crate) right: bool,
+    pub(crate) fields: Fields,
 }
 
 // The number of 20 digits, where it fits.
@@ -47,7 +50,7 @@ fn number_of(text: &[u8]) -> Number
 }
 
 fn count(which: Record) -> usize
-    ensures { λ r. ⌜ r ≤ 32 ⌝ }
+    ensures { λ r. ⌜ r ≤ mostNumbers ⌝ }
 {
     fields::count(which)
 }
@@ -66,26 +69,26 @@ fn none() -> Given {
     }
 }
 
-// The fields that a payload gives, if it is one of this kind of record.
-fn fields_of(payload: &[u8], which: Record) -> Given {
-    let many = count(which);
+// The fields that bytes give: so many numbers, and the text.
+pub(crate) fn fields_of(given: &[u8], many: usize) -> Given
+    requires { ⌜ many ≤ mostNumbers ⌝ }
+{
     let numbers_end = many * NUMBER_DIGITS;
-    if payload.len() != numbers_end + RECORD_BYTES {
+    if given.len() != numbers_end + RECORD_BYTES {
         return none();
     }
-    let mut fields = Fields::none();
+    let mut numbers = [0u64; MOST_NUMBERS];
     let mut i = 0;
     while i < many {
         let start = i * NUMBER_DIGITS;
         let end = start + NUMBER_DIGITS;
-        let Number::Is(n) = number_of(&payload[start..end]) else {
+        let Number::Is(n) = number_of(&given[start..end]) else {
             return none();
         };
-        fields = fields.with_number(i, n);
+        numbers[i] = n;
         i += 1;
     }
-    let numbers = fields.numbers;
-    let text = text_of(&payload[numbers_end..]);
+    let text = text_of(&given[numbers_end..]);
     Given {
         right: true,
         fields: Fields { numbers, text },
@@ -123,7 +126,7 @@ pub(crate) fn read(payload: &[u8], which: Record, dir: Direction) {
 }
 
 pub(crate) fn write(payload: &[u8], which: Record, dir: Direction, out: &mut [u8]) {
-    let asked = fields_of(payload, which);
+    let asked = fields_of(payload, count(which));
     if asked.right {
         let fields = asked.fields;
         reply::memory(fields::write_record(fields, which, dir, out), out);

@@ -1,10 +1,10 @@
 -- Laws of rules in an order: what each answer says, that there is one answer, and rules behind others. Assumes nothing.
 use mathlib.Core.Path.{_≡_, refl, sym, ap, _∙_}
 use mathlib.Core.Bool.{Bool, true, false, cond}
-use mathlib.Core.List.{List, [], _∷_, _++_, map, append-assoc}
+use mathlib.Core.List.{List, [], _∷_, _++_, append-assoc}
 use Prim.Native.Nat.{ℕ}
 use native.Mathlib.Omega.{arith}
-use Rattle.answer.specs.Rules.{Rule, rule, firstBroken, AllKept, Broken, Allowed, accepted, refused, refusedAs, andThen, onLine, ruleOnLine}
+use Rattle.answer.specs.Rules.{Rule, rule, firstBroken, AllKept, Broken, Allowed, accepted, refused, refusedAs, andThen, onLine, ruleOnLine, rulesOnLine}
 use Rattle.answer.specs.declared.LineNo.{LineNo}
 use Rattle.answer.specs.declared.Refusal.{Refusal}
 use Rattle.answer.specs.declared.Answer.{Answer}
@@ -97,7 +97,7 @@ module _ {o a b : Answer} (o-is : o ≡ andThen a b) where
   pub joined-three : (xs ys zs : List Rule) {c d : Answer} → b ≡ andThen c d → a ≡ firstBroken xs → c ≡ firstBroken ys → d ≡ firstBroken zs → o ≡ firstBroken (xs ++ ys ++ zs)
   joined-three xs ys zs b-is e f g = o-is ∙ rw (b-is, e, f, g) (sym (ap firstBroken (append-assoc xs ys zs) ∙ first-append xs (ys ++ zs) ∙ ap (andThen (firstBroken xs)) (first-append ys zs)))
 
-pub first-on-line : (line : LineNo) (rs : List Rule) → firstBroken (map (ruleOnLine line) rs) ≡ onLine line (firstBroken rs)
+pub first-on-line : (line : LineNo) (rs : List Rule) → firstBroken (rulesOnLine line rs) ≡ onLine line (firstBroken rs)
 unfolding firstBroken
 first-on-line line [] = refl
 first-on-line line (r ∷ rs) = rw (first-on-line line rs) (go (r .kept))
@@ -145,3 +145,8 @@ pub kept-behind : (xs ys : List Rule) → AllKept (xs ++ ys) → AllKept ys
 unfolding AllKept
 kept-behind [] ys k = k
 kept-behind (x ∷ xs) ys k = kept-behind xs ys (k .1)
+
+pub kept-join : (xs ys : List Rule) → AllKept xs → AllKept ys → AllKept (xs ++ ys)
+unfolding AllKept
+kept-join [] ys k l = l
+kept-join (x ∷ xs) ys k l = (k .0, kept-join xs ys (k .1) l)

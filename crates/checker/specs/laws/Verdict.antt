@@ -112,7 +112,7 @@ refused-file file = refused-rest at-start file
 
 -- ---- the line that a refusal names: one more than the lines accepted before it
 
-next-line-no : (r : Record) (s : Checker) (rec : List ℕ) → lineOf (next r s rec) .0 ≡ suc (lineOf s .0)
+pub next-line-no : (r : Record) (s : Checker) (rec : List ℕ) → lineOf (next r s rec) .0 ≡ suc (lineOf s .0)
 unfolding add
 next-line-no FileHeader s rec = omega arith
 next-line-no BatchHeader s rec = omega arith

@@ -152,14 +152,18 @@ rules-at [] d rec j h = absurd (not-suc-le-zero h)
 rules-at (f ∷ fs) d rec zero h = refl
 rules-at (f ∷ fs) d rec (suc j) h = rw (rules-at fs d rec j (le-of-suc-le-suc h)) (sym (append-assoc (fieldRules f d rec) _ _))
 
+-- each field of a record whose fields are accepted is right
+pub kept-field : (r : Record) (d : Direction) (rec : List ℕ) → firstBroken (rulesOf (fieldsOf r) d rec) ≡ Accepted
+    → (j : ℕ) → j < length (fieldsOf r) → let f = getD (fieldsOf r) j none in Kept (part f rec) (heldAs f)
+kept-field r d rec e j h =
+    let fields = rw (rules-at (fieldsOf r) d rec j h) at e in
+    kept _ d rec (sound-at r j h) (front-accepted _ _ (back-accepted (rulesOf (take j (fieldsOf r)) d rec) _ fields))
+
 module _ (r : Record) (d : Direction) (rec : List ℕ) (e : firstBroken (recordRules r d rec) ≡ Accepted) where
   pub right-length : length rec ≡ recordBytes
   unfolding recordRules AllKept
   right-length = eqb-true _ _ (accepted-kept _ e .0)
 
-  -- each field of a record that is accepted is right
   pub right-field : (j : ℕ) → j < length (fieldsOf r) → let f = getD (fieldsOf r) j none in Kept (part f rec) (heldAs f)
   unfolding recordRules
-  right-field j h =
-      let fields = rw (rules-at (fieldsOf r) d rec j h) at (back-accepted (firstRules r d rec) (rulesOf (fieldsOf r) d rec) e) in
-      kept _ d rec (sound-at r j h) (front-accepted _ _ (back-accepted (rulesOf (take j (fieldsOf r)) d rec) _ fields))
+  right-field = kept-field r d rec (back-accepted (firstRules r d rec) (rulesOf (fieldsOf r) d rec) e)

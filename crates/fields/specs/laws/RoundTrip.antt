@@ -15,12 +15,12 @@ use Rattle.digits.specs.laws.Numerals.{given as digits-of, length-numeral, prin
 use Rattle.digits.specs.declared.spelling.Number.the-variants.{Is}
 use Rattle.layout.specs.Table.{Field, part, fieldsOf, recordBytes, none}
 use Rattle.layout.specs.Kinds.{Held, asNumber}
-use Rattle.layout.specs.Record.{recordRules}
+use Rattle.layout.specs.Record.{rulesOf, recordRules}
 use Rattle.layout.specs.declared.Direction.{Direction}
 use Rattle.layout.specs.declared.Record.{Record}
 use Rattle.fields.specs.Values.{heldAs, rendered, recordOf, numberIn, numbersIn, fieldsIn, number, bytes, givenFor, givenEach, given}
 use Rattle.fields.specs.laws.Parts.{part-width, record-length, holds, same-parts}
-use Rattle.fields.specs.laws.Kept.{Kept, is-number, is-bytes, is-fixed, right-length, right-field}
+use Rattle.fields.specs.laws.Kept.{Kept, is-number, is-bytes, is-fixed, kept-field, right-length, right-field}
 use Rattle.fields.specs.declared.Fields.{Fields}
 
 -- ---- one field
@@ -38,6 +38,12 @@ number-same w n m p e = go (decLt n (10 ^ w))
     go : Dec (n < 10 ^ w) → m ≡ n
     go (yes h) = cc (printed-parsed w n h (omega (arith, digits-of _ m e .few, length-numeral w n)))
     go (no h) = cc (wide-not-parsed w n p (omega arith))
+
+-- a number, as it is written and if that is right, is read
+number-read : {h : Held} {cs : List ℕ} (n : ℕ) (bs : List ℕ) → 0 < length bs → cs ≡ rendered h n bs → h ≡ asNumber → Kept cs h → numberOf cs ≡ Is n
+number-read n bs p e a (is-number {n = m} q) = q ∙ ap Is (number-same (length bs) n m p (rw e at q))
+number-read n bs p e a is-bytes = cc
+number-read n bs p e a (is-fixed q) = cc
 
 -- what is given, if it is right as it is written, is read again
 given-back : {h : Held} {cs : List ℕ} (n : ℕ) (bs : List ℕ) → 0 < length bs → cs ≡ rendered h n bs → Kept cs h → givenFor h (numberIn h cs) cs ≡ givenFor h n bs
@@ -97,3 +103,11 @@ module _ (r : Record) (d : Direction) (v : Fields) (full : length (v .text) ≡ 
   pub number-back : (j : ℕ) → j < length (fieldsOf r) → heldAs (getD (fieldsOf r) j none) ≡ asNumber
       → getD (fieldsIn r (recordOf r v) .numbers) j 0 ≡ getD (v .numbers) j 0
   number-back j h a = let same = rw a at (field-back j h) in cc
+
+-- the same of a record whose fields are accepted: the digits at the field's places give the number
+pub field-reads : (r : Record) (d : Direction) (v : Fields) → length (v .text) ≡ recordBytes → firstBroken (rulesOf (fieldsOf r) d (recordOf r v)) ≡ Accepted
+    → (j : ℕ) → j < length (fieldsOf r) → let f = getD (fieldsOf r) j none in heldAs f ≡ asNumber → numberOf (part f (recordOf r v)) ≡ Is (getD (v .numbers) j 0)
+field-reads r d v full e j h a =
+    let f = getD (fieldsOf r) j none in
+    let w = part-width r (v .text) full j h in
+    number-read (getD (v .numbers) j 0) (part f (v .text)) (omega arith) (holds r v full j h) a (kept-field r d (recordOf r v) e j h)

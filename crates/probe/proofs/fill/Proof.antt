@@ -8,10 +8,10 @@ use Rattle.probe.proofs.fill.Statement.{statement}
 use Rattle.probe.proofs.fill.Tie as tie
 
 abbrev Inv-loop : tie.InvT-loop
-Inv-loop out₀ i₀ out i = (i ≤ length out) × (length out ≡ length out₀)
+Inv-loop out₀ byte i₀ out i = (i ≤ length out) × (length out ≡ length out₀)
 
 abbrev μ-loop : tie.MeasureT-loop
-μ-loop out₀ i₀ out i = length out - i
+μ-loop out₀ byte i₀ out i = length out - i
 
 pub fill-spec : {M : Type 1} → statement M
 fill-spec =

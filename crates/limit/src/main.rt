@@ -1,0 +1,97 @@
+// Writes a batch up to two of the writer's limits and past them, and reads the file back. It pays up to
+// 1,000 cents below the file's limit, is refused 1,000 more (number 23) and pays 999; it pays 0 cents
+// up to the 10,000th payment, and is refused another (number 20). It prints a line for each refusal,
+// and then the reader's.
+mod records;
+mod reply;
+
+use answer::Answer;
+use checker::LINE_BYTES;
+use fields::Fields;
+use writer::Payment;
+use writer::Writer;
+use writer::Written;
+
+// As many payments as a batch may have, of two records each; the headers and trailers of batch and
+// file.
+const LINES: usize = 20004;
+
+const FILE_BYTES: usize = LINES * LINE_BYTES;
+
+// The most cents that a payment's 15 digits hold, and how often they are paid: 10^18 - 1,000 in all.
+const MOST_CENTS: u64 = 999999999999999;
+
+const LARGE_PAYMENTS: u64 = 1000;
+
+// The next payment: what no file has room for, and one cent less.
+const TOO_MANY_CENTS: u64 = 1000;
+
+const LAST_CENTS: u64 = 999;
+
+// What is left to pay, with no cents, up to the 10,000th.
+const EMPTY_PAYMENTS: u64 = 8999;
+
+const NO_CENTS: u64 = 0;
+
+// The state behind a call. A refusal is printed; it left state and output as they were.
+fn state_after(written: Written) -> Writer {
+    let answer = written.answer;
+    if let Answer::Refused(r) = answer {
+        reply::refused(r);
+    }
+    written.state
+}
+
+fn pay(state: Writer, cents: u64, out: &mut [u8]) -> Writer {
+    let payment = Payment::of_two(records::credit(cents), records::payee());
+    state_after(state.payment(payment, out))
+}
+
+fn pay_often(state: Writer, times: u64, cents: u64, out: &mut [u8]) -> Writer {
+    let mut state = state;
+    let mut paid = 0;
+    while paid < times {
+        let next = pay(state, cents, out);
+        state = next;
+        paid += 1;
+    }
+    state
+}
+
+fn open(out: &mut [u8]) -> Writer {
+    let state = state_after(Writer::start().open_file(records::file_header(), out));
+    state_after(state.open_batch(records::batch_header(), out))
+}
+
+fn pay_to_the_cent(state: Writer, out: &mut [u8]) -> Writer {
+    let state = pay_often(state, LARGE_PAYMENTS, MOST_CENTS, out);
+    let state = pay(state, TOO_MANY_CENTS, out);
+    pay(state, LAST_CENTS, out)
+}
+
+fn pay_to_the_last(state: Writer, out: &mut [u8]) -> Writer {
+    let state = pay_often(state, EMPTY_PAYMENTS, NO_CENTS, out);
+    pay(state, NO_CENTS, out)
+}
+
+fn close(state: Writer, out: &mut [u8]) {
+    let state = state_after(state.close_batch(Fields::blank(), out));
+    state_after(state.close_file(Fields::blank(), out));
+}
+
+fn write_file(out: &mut [u8]) {
+    let state = open(out);
+    let state = pay_to_the_cent(state, out);
+    let state = pay_to_the_last(state, out);
+    close(state, out);
+}
+
+fn write_and_read(file: &mut [u8]) {
+    write_file(file);
+    reply::outcome(checker::check_file(file));
+}
+
+fn main() {
+    let mut file = [0u8; FILE_BYTES];
+    write_and_read(&mut file);
+}

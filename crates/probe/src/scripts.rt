@@ -1,0 +1,342 @@
+// Scripts: the writer's calls one after the other, and what is done to the output memory between
+// them.
+use super::fill;
+use super::header;
+use super::header::Asked;
+use super::records;
+use super::records::MOST_NUMBERS;
+use super::records::NUMBER_DIGITS;
+use super::reply;
+use answer::Answer;
+use checker::Outcome;
+use digits::Number;
+use fields::Fields;
+use layout::RECORD_BYTES;
+use layout::Record;
+use writer::Detail;
+use writer::Payment;
+use writer::Writer;
+use writer::Written;
+ghost use Prim.Native.Nat.{_+_, _≤_, _<_};
+ghost use lib.ListN.{length};
+ghost use Rattle.probe.specs.Sizes.{headBytes, mostRecords, mostStep};
+
+// A letter and, of a call, the count of its records. No step is shorter.
+const HEAD: usize = 2;
+
+// A record of a call: its kind, its numbers and its text.
+const GIVEN_BYTES: usize = 1 + MOST_NUMBERS * NUMBER_DIGITS + RECORD_BYTES;
+
+// A letter and six digits, or a letter and a byte.
+const LEND_BYTES: usize = 7;
+
+const OVERWRITE_BYTES: usize = 2;
+
+enum Call {
+    OpenFile,
+    OpenBatch,
+    // With a third record, or without.
+    Pay(bool),
+    CloseBatch,
+    CloseFile,
+}
+
+enum Step {
+    Call(Call),
+    // From here on so many bytes of the output memory are lent.
+    Lend(usize),
+    // The whole of it is overwritten.
+    Overwrite(u8),
+    Unknown,
+}
+
+// A step of a payload, and where it ends.
+struct Found {
+    step: Step,
+    end: usize,
+}
+
+struct Given {
+    right: bool,
+    record: Detail,
+}
+
+struct Reached {
+    state: Writer,
+    lent: usize,
+}
+
+fn one_record(call: Call, count: u8) -> Step {
+    if count == b'1' {
+        Step::Call(call)
+    } else {
+        Step::Unknown
+    }
+}
+
+fn payment(count: u8) -> Step {
+    match count {
+        b'2' => Step::Call(Call::Pay(false)),
+        b'3' => Step::Call(Call::Pay(true)),
+        _ => Step::Unknown,
+    }
+}
+
+fn lend(payload: &[u8], at: usize) -> Step
+    requires { ⌜ at < length (now payload) ⌝ }
+{
+    if payload.len() - at < LEND_BYTES {
+        return Step::Unknown;
+    }
+    match header::announced(payload, at + 1) {
+        Number::Is(n) => Step::Lend(n as usize),
+        Number::Not => Step::Unknown,
+    }
+}
+
+// What the two bytes at this index begin.
+fn step_of(payload: &[u8], at: usize) -> Step
+    requires { ⌜ at + headBytes ≤ length (now payload) ⌝ }
+{
+    let letter = payload[at];
+    let next = payload[at + 1];
+    match letter {
+        b'O' => one_record(Call::OpenFile, next),
+        b'L' => one_record(Call::OpenBatch, next),
+        b'P' => payment(next),
+        b'C' => one_record(Call::CloseBatch, next),
+        b'E' => one_record(Call::CloseFile, next),
+        b'M' => lend(payload, at),
+        b'X' => Step::Overwrite(next),
+        _ => Step::Unknown,
+    }
+}
+
+fn count_of(call: Call) -> usize
+    ensures { λ r. ⌜ r ≤ mostRecords ⌝ }
+{
+    match call {
+        Call::OpenFile => 1,
+        Call::OpenBatch => 1,
+        Call::Pay(noted) => if noted { 3 } else { 2 },
+        Call::CloseBatch => 1,
+        Call::CloseFile => 1,
+    }
+}
+
+// Nothing behind an unknown step is looked at, so any length does.
+fn bytes_of(step: Step) -> usize
+    ensures { λ r. ⌜ (0 < r) × (r ≤ mostStep) ⌝ }
+{
+    match step {
+        Step::Call(call) => HEAD + count_of(call) * GIVEN_BYTES,
+        Step::Lend(_) => LEND_BYTES,
+        Step::Overwrite(_) => OVERWRITE_BYTES,
+        Step::Unknown => HEAD,
+    }
+}
+
+fn no_step(payload: &[u8]) -> Found
+    ensures { λ r. ⌜ (length (now (payload .entry)) ≤ r .end) × (r .end ≤ length (now (payload .entry))) ⌝ }
+{
+    Found {
+        step: Step::Unknown,
+        end: payload.len(),
+    }
+}
+
+// The step that begins at this index of the payload, if it is there whole.
+fn step_at(payload: &[u8], at: usize) -> Found
+    requires { ⌜ at < length (now payload) ⌝ }
+    ensures { λ r. ⌜ (at < r .end) × (r .end ≤ length (now (payload .entry))) ⌝ }
+{
+    if payload.len() - at < HEAD {
+        return no_step(payload);
+    }
+    let step = step_of(payload, at);
+    let bytes = bytes_of(step);
+    if payload.len() - at < bytes {
+        return no_step(payload);
+    }
+    Found {
+        step,
+        end: at + bytes,
+    }
+}
+
+fn no_record() -> Given {
+    let fields = Fields::none();
+    Given {
+        right: false,
+        record: Detail {
+            which: Record::SegmentZ,
+            fields,
+        },
+    }
+}
+
+// A record of a call, right if its kind and its numbers are.
+fn record_at(call: &[u8], index: usize) -> Given
+    requires { ⌜ index < mostRecords ⌝ }
+{
+    let start = HEAD + index * GIVEN_BYTES;
+    let end = start + GIVEN_BYTES;
+    if call.len() < end {
+        return no_record();
+    }
+    let Asked::Of(which) = header::record_of(call[start]) else {
+        return no_record();
+    };
+    let given = records::fields_of(&call[start + 1..end], MOST_NUMBERS);
+    let fields = given.fields;
+    Given {
+        right: given.right,
+        record: Detail { which, fields },
+    }
+}
+
+fn are_records(call: &[u8], count: usize) -> bool
+    requires { ⌜ count ≤ mostRecords ⌝ }
+{
+    let mut i = 0;
+    while i < count {
+        if !record_at(call, i).right {
+            return false;
+        }
+        i += 1;
+    }
+    true
+}
+
+fn is_right(step: Step, bytes: &[u8]) -> bool {
+    match step {
+        Step::Call(call) => are_records(bytes, count_of(call)),
+        Step::Lend(_) => true,
+        Step::Overwrite(_) => true,
+        Step::Unknown => false,
+    }
+}
+
+fn is_script(payload: &[u8]) -> bool {
+    let mut at = 0;
+    while at < payload.len() {
+        let found = step_at(payload, at);
+        let step = found.step;
+        let end = found.end;
+        if !is_right(step, &payload[at..end]) {
+            return false;
+        }
+        at = end;
+    }
+    true
+}
+
+fn detail(call: &[u8], index: usize) -> Detail
+    requires { ⌜ index < mostRecords ⌝ }
+{
+    let given = record_at(call, index);
+    given.record
+}
+
+// Of a call with one record: whatever kind it is said to be, the call decides.
+fn only_fields(call: &[u8]) -> Fields {
+    let only = detail(call, 0);
+    only.fields
+}
+
+fn payment_of(call: &[u8], noted: bool) -> Payment {
+    let first = detail(call, 0);
+    let second = detail(call, 1);
+    if noted {
+        Payment::of_three(first, second, detail(call, 2))
+    } else {
+        Payment::of_two(first, second)
+    }
+}
+
+fn make_call(state: Writer, call: Call, bytes: &[u8], out: &mut [u8]) -> Written {
+    match call {
+        Call::OpenFile => state.open_file(only_fields(bytes), out),
+        Call::OpenBatch => state.open_batch(only_fields(bytes), out),
+        Call::Pay(noted) => state.payment(payment_of(bytes, noted), out),
+        Call::CloseBatch => state.close_batch(only_fields(bytes), out),
+        Call::CloseFile => state.close_file(only_fields(bytes), out),
+    }
+}
+
+// A closed file's totals stand in the line.
+fn print_closed(state: Writer, answer: Answer) {
+    match answer {
+        Answer::Accepted => reply::outcome(Outcome::Accepted(state.machine().closed())),
+        Answer::Refused(_) => reply::line(answer),
+    }
+}
+
+fn print_answer(call: Call, state: Writer, answer: Answer) {
+    if let Call::CloseFile = call {
+        print_closed(state, answer);
+    } else {
+        reply::line(answer);
+    }
+}
+
+fn smaller(a: usize, b: usize) -> usize
+    ensures { λ r. ⌜ r ≤ b ⌝ }
+{
+    if a < b { a } else { b }
+}
+
+// Makes a call, and prints its answer.
+fn answer_call(state: Writer, call: Call, bytes: &[u8], lent: usize, out: &mut [u8]) -> Writer {
+    let end = smaller(lent, out.len());
+    let written = make_call(state, call, bytes, &mut out[..end]);
+    let state = written.state;
+    let answer = written.answer;
+    print_answer(call, state, answer);
+    state
+}
+
+fn make_step(reached: Reached, step: Step, bytes: &[u8], out: &mut [u8]) -> Reached {
+    let state = reached.state;
+    let lent = reached.lent;
+    match step {
+        Step::Call(call) => {
+            let state = answer_call(state, call, bytes, lent, out);
+            Reached { state, lent }
+        }
+        Step::Lend(lent) => Reached { state, lent },
+        Step::Overwrite(byte) => {
+            fill(out, byte);
+            reached
+        }
+        Step::Unknown => reached,
+    }
+}
+
+fn make_steps(payload: &[u8], out: &mut [u8]) {
+    let state = Writer::start();
+    let mut reached = Reached {
+        state,
+        lent: out.len(),
+    };
+    let mut at = 0;
+    while at < payload.len() {
+        let found = step_at(payload, at);
+        let step = found.step;
+        let end = found.end;
+        let next = make_step(reached, step, &payload[at..end], out);
+        reached = next;
+        at = end;
+    }
+}
+
+// Of a payload that is no script nothing is done.
+pub(crate) fn run(payload: &[u8], out: &mut [u8]) {
+    if is_script(payload) {
+        make_steps(payload, out);
+        reply::bytes(out);
+        reply::bytes(b"\n");
+    } else {
+        reply::malformed();
+    }
+}

@@ -1,0 +1,70 @@
+// Writes a small remittance, a credit batch and a boleto batch of one payment each, reads it back as
+// the bank would, and prints the reader's line: `OK batches records payments cents`. If a call is
+// refused, its line is printed instead: `NO number line place`.
+mod records;
+mod reply;
+
+use answer::Answer;
+use checker::LINE_BYTES;
+use fields::Fields;
+use writer::Payment;
+use writer::Writer;
+use writer::Written;
+
+// The headers and trailers of the file and of two batches, and two payments of two records.
+const LINES: usize = 10;
+
+const FILE_BYTES: usize = LINES * LINE_BYTES;
+
+fn is_refused(written: Written) -> bool {
+    let answer = written.answer;
+    match answer {
+        Answer::Accepted => false,
+        Answer::Refused(_) => true,
+    }
+}
+
+// A batch with one payment. The writer counts and sums, so nothing is left to say in its trailer.
+fn write_batch(state: Writer, header: Fields, payment: Payment, out: &mut [u8]) -> Written {
+    let opened = state.open_batch(header, out);
+    if is_refused(opened) {
+        return opened;
+    }
+    let state = opened.state;
+    let paid = state.payment(payment, out);
+    if is_refused(paid) {
+        return paid;
+    }
+    let state = paid.state;
+    state.close_batch(Fields::blank(), out)
+}
+
+// Each call takes the state by value, and hands back the next state and an answer.
+fn write_file(out: &mut [u8]) -> Written {
+    let opened = Writer::start().open_file(records::file_header(), out);
+    if is_refused(opened) {
+        return opened;
+    }
+    let state = opened.state;
+    let credits = write_batch(state, records::credit_header(), records::credit(), out);
+    if is_refused(credits) {
+        return credits;
+    }
+    let state = credits.state;
+    let boletos = write_batch(state, records::boleto_header(), records::boleto(), out);
+    if is_refused(boletos) {
+        return boletos;
+    }
+    let state = boletos.state;
+    state.close_file(Fields::blank(), out)
+}
+
+fn main() {
+    let mut file = [0u8; FILE_BYTES];
+    let written = write_file(&mut file);
+    let answer = written.answer;
+    match answer {
+        Answer::Accepted => reply::outcome(checker::check_file(&file)),
+        Answer::Refused(r) => reply::refused(r),
+    }
+}

@@ -1,0 +1,34 @@
+-- `writer::Writer::payment` meets its contract. Assumes nothing.
+use Rattle.answer.specs.Rules.{firstBroken}
+use Rattle.writer.proofs.Answering.{turn-is, may-pay, whole-call}
+use Rattle.writer.specs.Given.{pay}
+use Rattle.writer.specs.Refusals.{turnRules}
+use borrow.Author.Needs.{needs}
+use mathlib.Core.Path.{_≡_, _∙_}
+use Rattle.writer.proofs.Writer.payment.Statement.{statement}
+use Rattle.writer.proofs.Writer.payment.Tie as tie
+
+turn-said : (c : tie.After-check-turn) → let a = c .before .before .before .before .before .before .before .args in c .check-turn .result ≡ firstBroken (turnRules (pay (a .p)) (a .self .machine))
+turn-said c =
+    let a = c .before .before .before .before .before .before .before .args in
+    c .check-turn .ensures
+    ∙ rw (c .before .before .before .turns-at .ensures, c .before .before .before .before .phase .ensures) (turn-is (a .self .machine) _ _ (rw (c .before .before .count-of .ensures .0) at (c .before .payment-limits .ensures)))
+
+write-payment-requires : tie.Need-write-payment-requires
+write-payment-requires c κs = λ t. may-pay _ (c .before .before .before .before .before .before .before .before .args .p) (turn-said (c .before)) t
+
+returns : tie.Need-returns
+returns c = let a = c .before .before .before .before .before .before .before .before .before .before .before .args in whole-call (pay (a .p)) (turn-said (c .before .before .before .before)) (c .before .before .write-payment .ensures)
+
+pub payment-spec : {M : Type 1} → statement M
+payment-spec =
+    tie.close
+    (tie.spec
+    (λ c κs. search needs)
+    (λ c κs. search needs)
+    (λ c κs. search needs)
+    (λ c κs. search needs)
+    (λ c κs. search needs)
+    write-payment-requires
+    (λ c. search needs)
+    returns)

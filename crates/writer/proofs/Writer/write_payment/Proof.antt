@@ -1,0 +1,121 @@
+-- `writer::Writer::write_payment` meets its contract: the turn, the records, the sum, the room. Assumes nothing.
+use Prim.Native.Nat.{_+_, _≤_}
+use Prim.Native.Nat.{ℕ}
+use Rattle.answer.specs.Limits.{fileCents}
+use Rattle.answer.specs.Output.{room}
+use Rattle.answer.specs.Rules.{firstBroken, rulesOnLine}
+use Rattle.answer.specs.Rules.{rule, onLine}
+use Rattle.answer.specs.declared.Answer.the-variants.{Accepted}
+use Rattle.answer.specs.laws.Order.{ahead, front-accepted}
+use Rattle.answer.specs.laws.Order.{joined, first-on-line}
+use Rattle.checker.specs.Machine.{lineOf}
+use Rattle.writer.proofs.Answering.{turned-away, refuses, accepts, has-room}
+use Rattle.writer.proofs.Held.{held-sound}
+use Rattle.writer.proofs.Lent.{whole, lent}
+use Rattle.writer.specs.Given.{given}
+use Rattle.writer.specs.Given.{recordsIn, amountIn}
+use Rattle.writer.specs.Outcome.{cursorBehind}
+use Rattle.writer.specs.Refusals.{allGiven, centsSoFar, size}
+use Rattle.writer.specs.Steps.{paymentRules, dueInPayment, linesWith}
+use borrow.Author.Needs.{needs}
+use denote.Ref.{now}
+use lib.Dec.{ltb}
+use lib.ListN.{length, length-drop}
+use lib.ListN.{take, drop}
+use mathlib.Core.List.{List, _++_, flatten}
+use mathlib.Core.List.{[], _∷_}
+use mathlib.Core.Path.{_≡_, sym, ap, _∙_}
+use native.Mathlib.Omega.{arith}
+use Rattle.writer.proofs.Writer.write_payment.Statement.{statement}
+use Rattle.writer.proofs.Writer.write_payment.Tie as tie
+
+-- the answer behind the turn: the records', then the sum's and the room's
+answered : (c : tie.After-and-then2) → let a = c .before .before .before .before .before .before .before .before .before .before .before .before .before .args in c .and-then2 .result ≡ firstBroken (paymentRules (a .self) (a .p) (now (a .out)))
+answered c =
+    let a = c .before .before .before .before .before .before .before .before .before .before .before .before .before .args in
+    let w = a .self in
+    let m = w .machine in
+    let last = rule 23 0 (ltb (centsSoFar m + amountIn (a .p)) fileCents) ∷ room (cursorBehind w (recordsIn (a .p))) (now (a .out)) ∷ [] in
+    let ok = held-sound m (c .before .before .before .before .before .before .before .before .before .before .before .before .before .pre (c .before .before .before .before .before .before .before .before .before .before .enum-told .given .1) .is-held) in
+    joined (c .and-then2 .ensures) (allGiven (dueInPayment m) m (recordsIn (a .p))) (rulesOnLine (lineOf m) last)
+    (c .before .before .before .before .before .before .before .before .try-payment .ensures .answered)
+    (c .before .on-line .ensures
+    ∙ rw (c .before .before .next-line .ensures, ok) (ap (onLine (lineOf m)) (ahead (c .before .before .before .and-then .ensures) _ _ (c .before .before .before .before .before .before .check-sum .ensures) (rw (c .before .before .before .before .before .before .before .size-of .ensures) at (c .before .before .before .before .room .ensures))) ∙ sym (first-on-line (lineOf m) last)))
+
+roomy : (c : tie.After-and-then2) → c .and-then2 .result ≡ Accepted → let a = c .before .before .before .before .before .before .before .before .before .before .before .before .before .args in cursorBehind (a .self) (recordsIn (a .p)) ≤ length (now (a .out))
+roomy c e =
+    let a = c .before .before .before .before .before .before .before .before .before .before .before .before .before .args in
+    let m = a .self .machine in
+    has-room (allGiven (dueInPayment m) m (recordsIn (a .p))) (rule 23 0 (ltb (centsSoFar m + amountIn (a .p)) fileCents) ∷ []) (lineOf m) _ (now (a .out)) (sym (answered c) ∙ e)
+
+-- and so the records are accepted
+all-right : (c : tie.After-and-then2) → c .and-then2 .result ≡ Accepted → c .before .before .before .before .before .before .before .before .try-payment .result .answer ≡ Accepted
+all-right c e =
+    let a = c .before .before .before .before .before .before .before .before .before .before .before .before .before .args in
+    let m = a .self .machine in
+    c .before .before .before .before .before .before .before .before .try-payment .ensures .answered ∙ front-accepted (allGiven (dueInPayment m) m (recordsIn (a .p))) _ (sym (answered c) ∙ e)
+
+returns : tie.Need-returns
+returns c = turned-away _ _ _ (c .enum-told2 .given .1)
+
+try-payment-requires : tie.Need-try-payment-requires
+try-payment-requires c κs = c .before .before .before .before .pre (c .before .enum-told .given .1)
+
+check-sum-requires : tie.Need-check-sum-requires
+check-sum-requires c κs = held-sound _ (c .before .before .before .before .before .before .pre (c .before .before .before .enum-told .given .1) .is-held)
+
+sub-put-payment : tie.Need-sub-put-payment
+sub-put-payment c = omega (arith, roomy (c .before .before .before .before .before .before) (c .before .before .before .before .enum-told4 .given .1))
+
+part-put-payment-start : tie.Need-part-put-payment-start
+part-put-payment-start c = omega (arith, roomy (c .before .before .before .before .before .before) (c .before .before .before .before .enum-told4 .given .1))
+
+put-payment-requires : tie.Need-put-payment-requires
+put-payment-requires c κs = let a = c .before .before .before .before .before .before .before .before .before .before .before .before .before .before .before .before .before .before .before .before .args in let fits = roomy (c .before .before .before .before .before .before .before) (c .before .before .before .before .before .enum-told4 .given .1) in rw (whole (a .self .cursor) (now (a .out)) (omega arith), length-drop) (omega arith)
+
+add-t24 : tie.Need-add-t24
+add-t24 c = rw (c .before .before .before .before .before .before .before .before .before .before .before .before .before .before .before .before .before .size-of .ensures) (omega (arith, roomy (c .before .before .before .before .before .before .before .before .before .before) (c .before .before .before .before .before .before .before .before .enum-told4 .given .1), c .before .before .before .before .before .before .before .before .before .before .before .before .before .before .before .before .before .before .before .before .before .before .before .good .1 .1 .1 .0 .0))
+
+returns-2 : tie.Need-returns-2
+returns-2 c = refuses _ _ _ (c .before .before .before .before .before .before .before .before .before .before .before .before .enum-told .given .1) (answered (c .before .before)) (c .enum-told3 .given .1)
+
+returns-3 : tie.Need-returns-3
+returns-3 c =
+    let a = c .before .before .before .before .before .before .before .before .before .before .before .before .before .before .before .before .before .before .before .before .before .before .before .args in
+    let out = now (a .out) in
+    let n = size (length (recordsIn (a .p))) in
+    let told = c .before .before .before .before .before .before .before .before .enum-told4 .given .1 in
+    let fits = roomy (c .before .before .before .before .before .before .before .before .before .before) told in
+    let tried = c .before .before .before .before .before .before .before .before .before .before .before .before .before .before .before .before .before .before .try-payment .ensures in
+    let right = all-right (c .before .before .before .before .before .before .before .before .before .before) told in
+    let paid = c .before .before .before .before .before .before .before .before .before .before .before .before .before .before .before .before .before .before .try-payment .result in
+    accepts _ _ _ (c .before .before .before .before .before .before .before .before .before .before .before .before .before .before .before .before .before .before .before .before .enum-told .given .1) (answered (c .before .before .before .before .before .before .before .before .before .before)) told (tried .moved right) (rw (c .before .before .before .before .before .before .before .before .before .before .before .before .before .before .before .before .before .size-of .ensures))
+    (lent (a .self .cursor) out (omega arith) n (flatten (linesWith (a .p) (paid .first) (paid .second) (paid .third))) _ (c .before .before .put-payment .ensures)
+    ∙ ap (λ (l : List (List ℕ)). take (a .self .cursor) out ++ (flatten l ++ drop (a .self .cursor + n) out)) (tried .made right))
+
+pub write-payment-spec : {M : Type 1} → statement M
+write-payment-spec =
+    tie.close
+    (tie.spec
+    (λ c. search needs)
+    (λ c. search needs)
+    returns
+    try-payment-requires
+    (λ c κs. search needs)
+    check-sum-requires
+    (λ c κs. search needs)
+    (λ c κs. search needs)
+    (λ c κs. search needs)
+    (λ c κs. search needs)
+    (λ c κs. search needs)
+    (λ c. search needs)
+    (λ c. search needs)
+    sub-put-payment
+    part-put-payment-start
+    (λ c. search needs)
+    put-payment-requires
+    add-t24
+    (λ c. search needs)
+    returns-2
+    (λ c. search needs)
+    returns-3)

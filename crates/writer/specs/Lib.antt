@@ -1,0 +1,8 @@
+pub mod Given
+pub mod Filling
+pub mod Refusals
+pub mod Outcome
+pub mod Calls
+pub mod Steps
+pub mod Examples
+pub mod laws

@@ -1,0 +1,172 @@
+-- The refusals of a call, in the paper's order. Assumes nothing.
+use mathlib.Core.Bool.{Bool, true, false, _&&_, _||_}
+use mathlib.Core.List.{List, [], _∷_, _++_}
+use Prim.Native.Nat.{ℕ, _+_, _*_}
+use lib.Dec.{leb, ltb, eqb}
+use lib.ListN.{length, drop}
+use Rattle.answer.specs.Limits.{fileCents, fileRecords}
+use Rattle.answer.specs.Rules.{Rule, rule, rulesOnLine}
+use Rattle.answer.specs.Output.{room}
+use Rattle.layout.specs.Table.{typePlace, segmentPlace, fieldsOf}
+use Rattle.layout.specs.Record.{rulesOf, byteRule}
+use Rattle.layout.specs.declared.Direction.{Direction}
+use Rattle.layout.specs.declared.Direction.the-variants.{Remittance, Return}
+use Rattle.layout.specs.declared.Record.{Record}
+use Rattle.layout.specs.declared.Record.the-variants.{FileHeader, BatchHeader, SegmentA, SegmentB, SegmentJ, SegmentJ52, SegmentZ, BatchTrailer, FileTrailer}
+use Rattle.checker.specs.Order.{first, second}
+use Rattle.checker.specs.Line.{ordinal, mostBatches, mostPayments, houseRules, lineBytes}
+use Rattle.checker.specs.Machine.{lineOf, next, sound}
+use Rattle.checker.specs.declared.order.Phase.{Phase}
+use Rattle.checker.specs.declared.order.Phase.the-variants.{Start, Headed, Opened, Begun, Paid, Noted, Closed, Ended}
+use Rattle.checker.specs.declared.Checker.{Checker}
+use Rattle.writer.specs.Given.{Call, openFile, openBatch, pay, closeBatch, closeFile, recordsIn, recordsOf, amountIn}
+use Rattle.writer.specs.Filling.{bytesOf}
+use Rattle.writer.specs.declared.given.Detail.{Detail}
+use Rattle.writer.specs.declared.turns.Turns.{Turns}
+use Rattle.writer.specs.declared.Writer.{Writer}
+
+-- ---- 51
+
+-- which calls are in turn: to open the file, to open a batch, to pay, to close the batch, to close the file
+abbrev pub may : Bool → Bool → Bool → Bool → Bool → Turns
+may a b c d e = record { header = a; batch = b; payment = c; trailer = d; end = e }
+
+-- a batch is closed behind a payment, and a file behind a batch
+abbrev pub turns : Phase → Turns
+turns Start = may true false false false false
+turns Headed = may false true false false false
+turns Opened = may false false true false false
+turns Begun = may false false false false false
+turns Paid = may false false true true false
+turns Noted = may false false true true false
+turns Closed = may false true false false true
+turns Ended = may false false false false false
+
+-- ---- 20 and 25
+
+-- the records written so far
+abbrev pub recordsSoFar : Checker → ℕ
+recordsSoFar s = s .closed .records .0 + s .current .records .0
+
+-- a payment has two details at least, and three at most; behind it come the trailers of its batch and of the file
+abbrev pub leastDetails : ℕ
+leastDetails = 2
+
+abbrev pub mostDetails : ℕ
+mostDetails = 3
+
+abbrev pub trailers : ℕ
+trailers = 2
+
+-- a file that has these records has room for more
+abbrev pub fitsFile : ℕ → ℕ → Bool
+fitsFile records more = leb (records + more) fileRecords
+
+abbrev pub fitsBatch : ℕ → Bool
+fitsBatch records = fitsFile records (1 + leastDetails + trailers)
+
+abbrev pub fitsPayment : ℕ → ℕ → Bool
+fitsPayment records details = fitsFile records (details + trailers)
+
+-- ---- 51, 20 and 25
+
+abbrev pub turnLimits : Call → Checker → List Rule
+turnLimits (openFile v) s = rule 51 0 (turns (s .phase) .header) ∷ []
+turnLimits (openBatch v) s =
+    rule 51 0 (turns (s .phase) .batch)
+    ∷ rule 20 typePlace (leb (ordinal s) mostBatches)
+    ∷ rule 25 0 (fitsBatch (recordsSoFar s))
+    ∷ []
+turnLimits (pay p) s =
+    rule 51 0 (turns (s .phase) .payment)
+    ∷ rule 20 segmentPlace (leb (s .current .payments + 1) mostPayments)
+    ∷ rule 25 0 (fitsPayment (recordsSoFar s) (length (recordsIn p)))
+    ∷ []
+turnLimits (closeBatch v) s = rule 51 0 (turns (s .phase) .trailer) ∷ []
+turnLimits (closeFile v) s = rule 51 0 (turns (s .phase) .end) ∷ []
+
+-- ---- record by record the reader's 4, 11, fields and 16 to 19
+
+-- kinds of record, told apart
+abbrev pub code : Record → ℕ
+code FileHeader = 0
+code BatchHeader = 1
+code SegmentA = 2
+code SegmentB = 3
+code SegmentJ = 4
+code SegmentJ52 = 5
+code SegmentZ = 6
+code BatchTrailer = 7
+code FileTrailer = 8
+
+abbrev pub isOneOf : Record → List Record → Bool
+isOneOf r [] = false
+isOneOf r (q ∷ qs) = eqb (code r) (code q) || isOneOf r qs
+
+-- the third record of a payment, in a return
+abbrev pub notes : Direction → List Record
+notes Remittance = []
+notes Return = SegmentZ ∷ []
+
+-- the records that are due, at each position
+abbrev pub dueIn : Call → Checker → List (List Record)
+dueIn (openFile v) s = (FileHeader ∷ []) ∷ []
+dueIn (openBatch v) s = (BatchHeader ∷ []) ∷ []
+dueIn (pay p) s = first (s .batch) ∷ second (s .batch) ∷ notes (s .dir) ∷ []
+dueIn (closeBatch v) s = (BatchTrailer ∷ []) ∷ []
+dueIn (closeFile v) s = (FileTrailer ∷ []) ∷ []
+
+-- the next position's
+abbrev pub dueNow : List (List Record) → List Record
+dueNow [] = []
+dueNow (rs ∷ later) = rs
+
+-- a record that is given: its bytes, whether it is one that is due, its fields, and what the house asks
+unfoldable pub givenRules : Bool → Record → Direction → List ℕ → List Rule
+givenRules due r d rec = byteRule rec ∷ rule 11 segmentPlace due ∷ rulesOf (fieldsOf r) d rec ++ houseRules r rec
+
+-- as it is written in a state, on the line that is next there
+abbrev pub givenOnLine : Bool → Checker → Detail → List Rule
+givenOnLine due s g = rulesOnLine (lineOf s) (givenRules due (g .which) (s .dir) (bytesOf s g))
+
+-- the machine behind it
+abbrev pub nextBy : Checker → Detail → Checker
+nextBy s g = next (g .which) s (bytesOf s g)
+
+-- each record on its line, in the state that the records before it leave
+unfoldable pub allGiven : List (List Record) → Checker → List Detail → List Rule
+allGiven due s [] = []
+allGiven due s (g ∷ gs) = givenOnLine (isOneOf (g .which) (dueNow due)) s g ++ allGiven (drop 1 due) (nextBy s g) gs
+
+-- ---- 23 and 50
+
+abbrev pub centsSoFar : Checker → ℕ
+centsSoFar s = s .closed .cents .0 + s .current .cents .0
+
+abbrev pub sumRules : Call → Checker → List Rule
+sumRules (openFile v) s = []
+sumRules (openBatch v) s = []
+sumRules (pay p) s = rule 23 0 (ltb (centsSoFar s + amountIn p) fileCents) ∷ []
+sumRules (closeBatch v) s = []
+sumRules (closeFile v) s = []
+
+-- the bytes of so many lines
+abbrev pub size : ℕ → ℕ
+size lines = lineBytes * lines
+
+abbrev pub lastRules : Call → Writer → List ℕ → List Rule
+lastRules c w out = sumRules c (w .machine) ++ room (w .cursor + size (length (recordsOf c))) out ∷ []
+
+-- ---- a call
+
+-- a state that no calls leave (the law `never-guarded`) is refused on no line: what is counted is bounded, a payment has at most three records, and the sum fits a file
+unfoldable pub held : Checker → Bool
+held s = sound s && (leb (s .current .records .0) (1 + mostDetails * s .current .payments) && ltb (centsSoFar s) fileCents)
+
+abbrev pub turnRules : Call → Checker → List Rule
+turnRules c s = rule 51 0 (held s) ∷ rulesOnLine (lineOf s) (turnLimits c s)
+
+unfoldable pub callRules : Writer → Call → List ℕ → List Rule
+callRules w c out =
+    turnRules c (w .machine)
+    ++ (allGiven (dueIn c (w .machine)) (w .machine) (recordsOf c) ++ rulesOnLine (lineOf (w .machine)) (lastRules c w out))

@@ -1,0 +1,23 @@
+-- What is proved of the definitions, for other crates to cite.
+pub mod Due
+pub mod Sound
+pub mod Accepted
+pub mod Filled
+pub mod Lines
+pub mod Reads
+pub mod Details
+pub mod Ruled
+pub mod Turn
+pub mod TakesLine
+pub mod TakesCall
+pub mod Counted
+pub mod Sequences
+pub mod Ended
+pub mod Fits
+pub mod Laid
+pub mod Answers
+pub mod Memory
+pub mod Each
+pub mod Numbers
+pub mod RefusedLine
+pub mod Holds

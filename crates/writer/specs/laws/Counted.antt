@@ -1,0 +1,156 @@
+-- The machine counts what an accepted call puts in. Assumes nothing.
+use mathlib.Core.Path.{_≡_, refl, sym, ap, _∙_}
+use mathlib.Core.Bool.{Bool, true, false, cond}
+use mathlib.Core.List.{List, [], _∷_}
+use Prim.Native.Nat.{ℕ, suc, _+_, _<_}
+use native.Mathlib.Omega.{arith}
+use borrow.Author.Tests.{ltb-true, le-leb}
+use lib.Dec.{lit≤}
+use lib.ListN.{length}
+use Rattle.answer.specs.Limits.{fileCents}
+use Rattle.answer.specs.Rules.{AllKept}
+use Rattle.answer.specs.declared.Answer.the-variants.{Accepted}
+use Rattle.digits.specs.Numbers.{numberOf, value}
+use Rattle.digits.specs.declared.spelling.Number.the-variants.{Is}
+use Rattle.digits.specs.laws.Numerals.{given as digits-of}
+use Rattle.layout.specs.Table.{creditAmount, boletoAmount, fieldsOf}
+use Rattle.layout.specs.declared.Record.{Record}
+use Rattle.layout.specs.declared.Record.the-variants.{FileHeader, BatchHeader, SegmentA, SegmentB, SegmentJ, SegmentJ52, SegmentZ, BatchTrailer, FileTrailer}
+use Rattle.fields.specs.declared.Fields.{Fields}
+use Rattle.checker.specs.Totals.{totals, none, add, counts, centsOf}
+use Rattle.checker.specs.Machine.{next}
+use Rattle.checker.specs.declared.totals.Totals.{Totals}
+use Rattle.checker.specs.declared.Checker.{Checker}
+use Rattle.writer.specs.Given.{Call, openFile, openBatch, pay, closeBatch, closeFile, recordsIn, recordsOf, given, creditIndex, boletoIndex, amountOf}
+use Rattle.writer.specs.Filling.{bytesOf}
+use Rattle.writer.specs.Refusals.{dueIn, notes, centsSoFar, sumRules}
+use Rattle.writer.specs.Outcome.{behindAll, answerOf}
+use Rattle.writer.specs.Calls.{AllWhole, putBy}
+use Rattle.writer.specs.Steps.{dueInPayment}
+use Rattle.writer.specs.declared.given.Detail.{Detail}
+use Rattle.writer.specs.declared.given.Payment.{Payment}
+use Rattle.writer.specs.declared.Writer.{Writer}
+use Rattle.writer.specs.laws.Due.{begins, goes-on, notes-it, countsAs, begins-counts, goes-on-counts, notes-counts}
+use Rattle.writer.specs.laws.Accepted as accepted
+use Rattle.writer.specs.laws.Accepted.{kept, Right, Rights, rights}
+use Rattle.writer.specs.laws.Filled.{not-filled}
+use Rattle.writer.specs.laws.Reads.{stands-at, number-at}
+
+-- ---- totals
+
+pub record Same (a b : Totals) : Type 0 where
+  pub batches : a .batches ≡ b .batches
+  pub records : a .records .0 ≡ b .records .0
+  pub payments : a .payments ≡ b .payments
+  pub cents : a .cents .0 ≡ b .cents .0
+
+-- totals are what they count
+pub same-totals : {a b : Totals} → Same a b → a ≡ b
+same-totals e = λ i. totals (e .batches i) (e .records i) (e .payments i) (e .cents i)
+
+pub add-none : (t : Totals) → add t none ≡ t
+unfolding add
+add-none t = same-totals (omega arith)
+
+pub none-add : (t : Totals) → add none t ≡ t
+unfolding add
+none-add t = same-totals (omega arith)
+
+pub add-assoc : (a b c : Totals) → add (add a b) c ≡ add a (add b c)
+unfolding add
+add-assoc a b c = same-totals (omega arith)
+
+-- ---- one record
+
+-- what a state counts in all
+abbrev pub counted : Checker → Totals
+counted s = add (s .closed) (s .current)
+
+next-counts : (r : Record) (s : Checker) (rec : List ℕ) → counted (next r s rec) ≡ add (counted s) (counts r rec)
+unfolding add
+next-counts FileHeader s rec = same-totals (omega arith)
+next-counts BatchHeader s rec = same-totals (omega arith)
+next-counts SegmentA s rec = same-totals (omega arith)
+next-counts SegmentB s rec = same-totals (omega arith)
+next-counts SegmentJ s rec = same-totals (omega arith)
+next-counts SegmentJ52 s rec = same-totals (omega arith)
+next-counts SegmentZ s rec = same-totals (omega arith)
+next-counts BatchTrailer s rec = same-totals (omega arith)
+next-counts FileTrailer s rec = same-totals (omega arith)
+
+value-is : (bs : List ℕ) (n : ℕ) → numberOf bs ≡ Is n → value bs ≡ n
+value-is bs n e = let g = digits-of bs n e in rw (le-leb (length bs) _ (g .few)) (sym (g .is))
+
+-- the amount that is read is the one that was given
+amount-is : {due : List Record} {s : Checker} (r : Record) (v : Fields) → Right due s (given r v) → centsOf r (bytesOf s (given r v)) ≡ amountOf r v
+unfolding fieldsOf
+amount-is FileHeader v t = refl
+amount-is BatchHeader v t = refl
+amount-is {s = s} SegmentA v t = value-is _ _ (number-at t (stands-at creditIndex creditAmount (lit≤ tt) refl) refl) ∙ not-filled SegmentA s v creditIndex refl
+amount-is SegmentB v t = refl
+amount-is {s = s} SegmentJ v t = value-is _ _ (number-at t (stands-at boletoIndex boletoAmount (lit≤ tt) refl) refl) ∙ not-filled SegmentJ s v boletoIndex refl
+amount-is SegmentJ52 v t = refl
+amount-is SegmentZ v t = refl
+amount-is BatchTrailer v t = refl
+amount-is FileTrailer v t = refl
+
+-- ---- records one behind the other
+
+unfoldable countsAll : List Detail → Totals
+countsAll [] = none
+countsAll (g ∷ gs) = add (countsAs (g .which) (g .fields)) (countsAll gs)
+
+all-counted : {due : List (List Record)} {s : Checker} {gs : List Detail} → Rights due s gs → counted (behindAll s gs) ≡ add (counted s) (countsAll gs)
+unfolding behindAll countsAll
+all-counted {s = s} accepted.none = sym (add-none (counted s))
+all-counted {s = s} (accepted.more {g = g} t rs) =
+    all-counted rs ∙ rw (next-counts (g .which) s (bytesOf s g), amount-is (g .which) (g .fields) t) (add-assoc (counted s) _ _)
+
+-- a payment's are two or three, and one payment
+added : (n a : ℕ) → add (totals 0 1 1 a) (add (totals 0 1 0 0) (totals 0 n 0 0)) ≡ totals 0 (suc (suc n)) 1 a
+unfolding add
+added n a = same-totals (omega arith)
+
+payment-counts : (s : Checker) (p : Payment) → Rights (dueInPayment s) s (recordsIn p) → countsAll (recordsIn p) ≡ putBy (pay p)
+unfolding countsAll
+payment-counts s p (accepted.more t (accepted.more u others)) =
+    let a = begins-counts (begins (s .dir) (s .batch) (p .first .which) (t .is-due)) (p .first .fields) in
+    let b = goes-on-counts (goes-on (s .dir) (s .batch) (p .second .which) (u .is-due)) (p .second .fields) in
+    rw (a, b, third (p .noted) others) (added _ _)
+  where
+    third : {t : Checker} (b : Bool) → let gs = cond b (p .third ∷ []) [] in Rights (notes (s .dir) ∷ []) t gs → countsAll gs ≡ totals 0 (length gs) 0 0
+    third true (accepted.more x accepted.none) = add-none _ ∙ notes-counts (notes-it (s .dir) (s .batch) (p .third .which) (x .is-due)) (p .third .fields)
+    third false accepted.none = refl
+
+-- ---- a call
+
+pub call-counted : (w : Writer) (c : Call) (out : List ℕ) → AllWhole (recordsOf c) → answerOf w c out ≡ Accepted
+    → counted (behindAll (w .machine) (recordsOf c)) ≡ add (counted (w .machine)) (putBy c)
+unfolding countsAll
+call-counted w c out whole e = all-counted rs ∙ ap (add (counted s)) (puts c rs)
+  where
+    s : Checker
+    s = w .machine
+
+    rs : Rights (dueIn c s) s (recordsOf c)
+    rs = rights (dueIn c s) s whole (kept w c out e .records)
+
+    puts : (c : Call) → Rights (dueIn c s) s (recordsOf c) → countsAll (recordsOf c) ≡ putBy c
+    puts (openFile v) rs = add-none _
+    puts (openBatch v) rs = add-none _
+    puts (pay p) rs = payment-counts s p rs
+    puts (closeBatch v) rs = add-none _
+    puts (closeFile v) rs = add-none _
+
+-- an accepted call leaves the sum of the file below its limit
+pub call-cents : (w : Writer) (c : Call) (out : List ℕ) → AllWhole (recordsOf c) → answerOf w c out ≡ Accepted
+    → centsSoFar (w .machine) < fileCents → centsSoFar (behindAll (w .machine) (recordsOf c)) < fileCents
+unfolding add AllKept
+call-cents w c out h e l = omega (arith, ap (λ (t : Totals). t .cents .0) (call-counted w c out h e), few c (kept w c out e .sums))
+  where
+    few : (c : Call) → AllKept (sumRules c (w .machine)) → centsSoFar (w .machine) + putBy c .cents .0 < fileCents
+    few (openFile v) k = omega arith
+    few (openBatch v) k = omega arith
+    few (pay p) k = ltb-true _ _ (k .0)
+    few (closeBatch v) k = omega arith
+    few (closeFile v) k = omega arith

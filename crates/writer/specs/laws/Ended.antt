@@ -1,0 +1,97 @@
+-- The phase that an accepted call leaves: closing the file ends it, and behind that every call is refused. Assumes nothing.
+use mathlib.Core.Path.{_≡_, sym, ap, _∙_}
+use mathlib.Core.Bool.{Bool, true, false, cond}
+use mathlib.Core.List.{List, [], _∷_}
+use Prim.Native.Nat.{ℕ}
+use Rattle.answer.specs.Rules.{AllKept, firstBroken, refusal}
+use Rattle.answer.specs.declared.Answer.the-variants.{Accepted, Refused}
+use Rattle.fields.specs.declared.Fields.{Fields}
+use Rattle.checker.specs.Order.{second, ended}
+use Rattle.checker.specs.Machine.{lineOf}
+use Rattle.checker.specs.declared.order.Phase.{Phase}
+use Rattle.checker.specs.declared.order.Phase.the-variants.{Headed, Opened, Paid, Noted, Closed, Ended}
+use Rattle.checker.specs.declared.Checker.{Checker}
+use Rattle.writer.specs.Given.{Call, openFile, openBatch, pay, closeBatch, closeFile, thirdIn, recordsIn}
+use Rattle.writer.specs.Filling.{bytesOf}
+use Rattle.writer.specs.Refusals.{notes, nextBy, allGiven, held, callRules}
+use Rattle.writer.specs.Outcome.{newWriter, behindAll, answerOf}
+use Rattle.writer.specs.Calls.{Lent, WholeCalls, stateBehind, left, lent}
+use Rattle.writer.specs.Steps.{dueInPayment}
+use Rattle.writer.specs.declared.given.Payment.{Payment}
+use Rattle.writer.specs.declared.Writer.{Writer}
+use Rattle.writer.specs.laws.Due.{never, goes-on, notes-it}
+use Rattle.writer.specs.laws.Accepted.{kept, first-due, later-kept}
+use Rattle.writer.specs.laws.Turn.{pays-moves}
+use Rattle.writer.specs.laws.Sequences.{never-guarded}
+
+abbrev pub phaseBy : Call → Phase
+phaseBy (openFile v) = Headed
+phaseBy (openBatch v) = Opened
+phaseBy (pay p) = cond (p .noted) Noted Paid
+phaseBy (closeBatch v) = Closed
+phaseBy (closeFile v) = Ended
+
+payment-phase : (s : Checker) (p : Payment) → AllKept (allGiven (dueInPayment s) s (recordsIn p))
+    → behindAll s (recordsIn p) .phase ≡ cond (p .noted) Noted Paid
+unfolding behindAll
+payment-phase s p k = go (p .noted) (later-kept _ t (p .second) (thirdIn p) others)
+  where
+    t : Checker
+    t = nextBy s (p .first)
+
+    u : Checker
+    u = nextBy t (p .second)
+
+    others : AllKept (allGiven (second (s .batch) ∷ notes (s .dir) ∷ []) t (p .second ∷ thirdIn p))
+    others = later-kept (dueInPayment s) s (p .first) (p .second ∷ thirdIn p) k
+
+    go : (b : Bool) → let gs = cond b (p .third ∷ []) [] in AllKept (allGiven (notes (s .dir) ∷ []) u gs) → behindAll u gs .phase ≡ cond b Noted Paid
+    go true k = pays-moves u (bytesOf u (p .third)) (notes-it (s .dir) (s .batch) (p .third .which) (first-due _ u (p .third) [] k)) .phase
+    go false k = pays-moves t (bytesOf t (p .second)) (goes-on (s .dir) (s .batch) (p .second .which) (first-due _ t (p .second) (thirdIn p) others)) .phase
+
+-- an accepted call leaves its phase
+pub phase-after : (w : Writer) (c : Call) (out : List ℕ) → answerOf w c out ≡ Accepted → stateBehind w (lent c out) .machine .phase ≡ phaseBy c
+unfolding behindAll
+phase-after w (openFile v) out e = rw e
+phase-after w (openBatch v) out e = rw e
+phase-after w (pay p) out e = rw e (payment-phase (w .machine) p (kept w (pay p) out e .records))
+phase-after w (closeBatch v) out e = rw e
+phase-after w (closeFile v) out e = rw e
+
+-- ---- closing the file ends it, and nothing else does
+
+pub closes : (w : Writer) (v : Fields) (out : List ℕ) → answerOf w (closeFile v) out ≡ Accepted
+    → stateBehind w (lent (closeFile v) out) .machine .phase ≡ Ended
+closes w v out e = phase-after w (closeFile v) out e
+
+pub data Closing : Call → Type 0 where
+  closing : (v : Fields) → Closing (closeFile v)
+
+closing-phase : (c : Call) → phaseBy c ≡ Ended → Closing c
+closing-phase (openFile v) e = never (ap ended e)
+closing-phase (openBatch v) e = never (ap ended e)
+closing-phase (pay p) e = paid (p .noted) e
+  where
+    paid : (b : Bool) → cond b Noted Paid ≡ Ended → Closing (pay p)
+    paid true e = never (ap ended e)
+    paid false e = never (ap ended e)
+closing-phase (closeBatch v) e = never (ap ended e)
+closing-phase (closeFile v) e = closing v
+
+pub closed-by : (w : Writer) (c : Call) (out : List ℕ) → answerOf w c out ≡ Accepted → stateBehind w (lent c out) .machine .phase ≡ Ended → Closing c
+closed-by w c out e end = closing-phase c (sym (phase-after w c out e) ∙ end)
+
+-- ---- behind that every call is refused: of any state that is held, and so of any that calls leave
+
+pub ended-refuses : (w : Writer) → held (w .machine) ≡ true → w .machine .phase ≡ Ended
+    → (c : Call) (out : List ℕ) → answerOf w c out ≡ Refused (refusal 51 (lineOf (w .machine)) 0)
+unfolding answerOf callRules firstBroken
+ended-refuses w h e (openFile v) out = rw (h, e)
+ended-refuses w h e (openBatch v) out = rw (h, e)
+ended-refuses w h e (pay p) out = rw (h, e)
+ended-refuses w h e (closeBatch v) out = rw (h, e)
+ended-refuses w h e (closeFile v) out = rw (h, e)
+
+pub file-ended : (ls : List Lent) → WholeCalls ls → left newWriter ls .machine .phase ≡ Ended
+    → (c : Call) (out : List ℕ) → answerOf (left newWriter ls) c out ≡ Refused (refusal 51 (lineOf (left newWriter ls .machine)) 0)
+file-ended ls h e = ended-refuses (left newWriter ls) (never-guarded ls h) e

@@ -1,0 +1,172 @@
+-- What 20, 23 and 25 are for: in every state that calls leave, the file has room for the records that close it, and the numbers that the writer fills
+-- fit their fields. Assumes nothing.
+use mathlib.Core.Path.{_≡_, refl, ap}
+use mathlib.Core.Bool.{Bool, true, false, cond}
+use mathlib.Core.List.{List, [], _∷_}
+use Prim.Native.Nat.{ℕ, _+_, _^_, _≤_, _<_}
+use native.Mathlib.Omega.{arith}
+use borrow.Author.Tests.{leb-true}
+use lib.Dec.{lit<, lit≤}
+use lib.ListN.{length, length-take}
+use Rattle.answer.specs.Limits.{fileRecords}
+use Rattle.answer.specs.Rules.{AllKept}
+use Rattle.answer.specs.declared.Answer.{Answer}
+use Rattle.answer.specs.declared.Answer.the-variants.{Accepted, Refused}
+use Rattle.digits.specs.laws.Numerals.{value-lt}
+use Rattle.layout.specs.Table.{part, bankField}
+use Rattle.layout.specs.declared.Record.{Record}
+use Rattle.layout.specs.declared.Record.the-variants.{FileHeader, BatchHeader, SegmentA, SegmentB, SegmentJ, SegmentJ52, SegmentZ, BatchTrailer, FileTrailer}
+use Rattle.checker.specs.Totals.{add}
+use Rattle.checker.specs.Line.{ordinal}
+use Rattle.checker.specs.Machine.{next}
+use Rattle.checker.specs.laws.Kept.{kept-bounded}
+use Rattle.checker.specs.laws.Reached.{reached-kept}
+use Rattle.checker.specs.declared.order.Phase.{Phase}
+use Rattle.checker.specs.declared.order.Phase.the-variants.{Start, Headed, Opened, Begun, Paid, Noted, Closed, Ended}
+use Rattle.checker.specs.declared.totals.Totals.{Totals}
+use Rattle.checker.specs.declared.Checker.{Checker}
+use Rattle.writer.specs.Given.{Call, openFile, openBatch, pay, closeBatch, closeFile, recordsIn, recordsOf}
+use Rattle.writer.specs.Filling.{bytesOf}
+use Rattle.writer.specs.Refusals.{turns, recordsSoFar, leastDetails, mostDetails, trailers, turnLimits, nextBy}
+use Rattle.writer.specs.Outcome.{newWriter, behindAll, stateAfter, answerOf}
+use Rattle.writer.specs.Calls.{AllWhole, Lent, WholeCalls, no-call, and-call, putBy, stateBehind, left, lent}
+use Rattle.writer.specs.laws.Due.{never}
+use Rattle.writer.specs.laws.Sound.{as-held}
+use Rattle.writer.specs.laws.Accepted.{kept}
+use Rattle.writer.specs.laws.Counted.{call-counted}
+use Rattle.writer.specs.laws.Sequences.{machine-reached, never-guarded}
+use Rattle.writer.specs.laws.Ended.{phaseBy, phase-after}
+use Rattle.writer.specs.declared.given.Detail.{Detail}
+use Rattle.writer.specs.declared.Writer.{Writer}
+
+-- ---- room for the records that close the file
+
+-- how many they are at least, by phase
+abbrev pub reserve : Phase → ℕ
+reserve Start = 2
+reserve Headed = 1
+reserve Opened = leastDetails + trailers
+reserve Begun = 1 + trailers
+reserve Paid = trailers
+reserve Noted = trailers
+reserve Closed = 1
+reserve Ended = 0
+
+abbrev Roomy : Checker → Type 0
+Roomy s = recordsSoFar s + reserve (s .phase) ≤ fileRecords
+
+-- by the phases in which a call is in turn
+header-turn : (p : Phase) → turns p .header ≡ true → reserve p ≡ 2
+header-turn Start e = refl
+header-turn Headed e = never e
+header-turn Opened e = never e
+header-turn Begun e = never e
+header-turn Paid e = never e
+header-turn Noted e = never e
+header-turn Closed e = never e
+header-turn Ended e = never e
+
+trailer-turn : (p : Phase) → turns p .trailer ≡ true → reserve p ≡ trailers
+trailer-turn Start e = never e
+trailer-turn Headed e = never e
+trailer-turn Opened e = never e
+trailer-turn Begun e = never e
+trailer-turn Paid e = refl
+trailer-turn Noted e = refl
+trailer-turn Closed e = never e
+trailer-turn Ended e = never e
+
+end-turn : (p : Phase) → turns p .end ≡ true → reserve p ≡ 1
+end-turn Start e = never e
+end-turn Headed e = never e
+end-turn Opened e = never e
+end-turn Begun e = never e
+end-turn Paid e = never e
+end-turn Noted e = never e
+end-turn Closed e = refl
+end-turn Ended e = never e
+
+paid-reserve : (b : Bool) → reserve (cond b Noted Paid) ≡ trailers
+paid-reserve true = refl
+paid-reserve false = refl
+
+turn-room : (c : Call) (s : Checker) → AllKept (turnLimits c s) → Roomy s → recordsSoFar s + putBy c .records .0 + reserve (phaseBy c) ≤ fileRecords
+unfolding AllKept
+turn-room (openFile v) s k h = omega (arith, header-turn (s .phase) (k .0))
+turn-room (openBatch v) s k h = omega (arith, leb-true (recordsSoFar s + (1 + leastDetails + trailers)) fileRecords (k .1 .1 .0))
+turn-room (pay p) s k h = omega (arith, leb-true (recordsSoFar s + (length (recordsIn p) + trailers)) fileRecords (k .1 .1 .0), paid-reserve (p .noted))
+turn-room (closeBatch v) s k h = omega (arith, trailer-turn (s .phase) (k .0))
+turn-room (closeFile v) s k h = omega (arith, end-turn (s .phase) (k .0))
+
+call-roomy : (w : Writer) (c : Call) (out : List ℕ) → AllWhole (recordsOf c) → Roomy (w .machine) → Roomy (stateBehind w (lent c out) .machine)
+unfolding add
+call-roomy w c out whole h = go (answerOf w c out) refl
+  where
+    go : (a : Answer) → answerOf w c out ≡ a → Roomy (stateAfter a w (recordsOf c) .machine)
+    go Accepted e =
+        let records = ap (λ (t : Totals). t .records .0) (call-counted w c out whole e) in
+        let phase : behindAll (w .machine) (recordsOf c) .phase ≡ phaseBy c = rw e at (phase-after w c out e) in
+        rw phase (omega (arith, turn-room c (w .machine) (kept w c out e .first) h))
+    go (Refused r) e = h
+
+calls-roomy : (w : Writer) {ls : List Lent} → WholeCalls ls → Roomy (w .machine) → Roomy (left w ls .machine)
+unfolding left
+calls-roomy w no-call h = h
+calls-roomy w (and-call {l} whole hs) h = calls-roomy (stateBehind w l) hs (call-roomy w (l .call) (l .out) whole h)
+
+pub room-left : (ls : List Lent) → WholeCalls ls → recordsSoFar (left newWriter ls .machine) + reserve (left newWriter ls .machine .phase) ≤ fileRecords
+room-left ls h = calls-roomy newWriter h (lit≤ tt)
+
+-- ---- the bank has three digits
+
+next-bank : (s : Checker) (r : Record) (rec : List ℕ) → s .bank < 10 ^ 3 → next r s rec .bank < 10 ^ 3
+next-bank s FileHeader rec h = value-lt 3 (part bankField rec) (rw length-take (omega arith))
+next-bank s BatchHeader rec h = h
+next-bank s SegmentA rec h = h
+next-bank s SegmentB rec h = h
+next-bank s SegmentJ rec h = h
+next-bank s SegmentJ52 rec h = h
+next-bank s SegmentZ rec h = h
+next-bank s BatchTrailer rec h = h
+next-bank s FileTrailer rec h = h
+
+all-bank : (s : Checker) (gs : List Detail) → s .bank < 10 ^ 3 → behindAll s gs .bank < 10 ^ 3
+unfolding behindAll
+all-bank s [] h = h
+all-bank s (g ∷ gs) h = all-bank (nextBy s g) gs (next-bank s (g .which) (bytesOf s g) h)
+
+call-bank : (a : Answer) (w : Writer) (gs : List Detail) → w .machine .bank < 10 ^ 3 → stateAfter a w gs .machine .bank < 10 ^ 3
+call-bank Accepted w gs h = all-bank (w .machine) gs h
+call-bank (Refused r) w gs h = h
+
+calls-bank : (w : Writer) (ls : List Lent) → w .machine .bank < 10 ^ 3 → left w ls .machine .bank < 10 ^ 3
+unfolding left
+calls-bank w [] h = h
+calls-bank w (l ∷ ls) h = calls-bank (stateBehind w l) ls (call-bank (answerOf w (l .call) (l .out)) w (recordsOf (l .call)) h)
+
+-- ---- so what the writer fills fits its fields: 8 is never the writer's own fault
+
+pub record OwnFits (s : Checker) : Type 0 where
+  pub bank : s .bank < 10 ^ 3
+  pub batch : ordinal s < 10 ^ 4
+  pub number : s .current .records .0 + mostDetails < 10 ^ 5
+  pub batch-records : s .current .records .0 + 1 < 10 ^ 6
+  pub batch-sum : s .current .cents .0 < 10 ^ 18
+  pub file-batches : s .closed .batches < 10 ^ 6
+  pub file-records : turns (s .phase) .end ≡ true → s .closed .records .0 + 1 < 10 ^ 6
+
+pub own-fits : (ls : List Lent) → WholeCalls ls → OwnFits (left newWriter ls .machine)
+own-fits ls h =
+    let s = left newWriter ls .machine in
+    let b = kept-bounded (reached-kept (machine-reached ls h)) in
+    let c = as-held s (never-guarded ls h) .cents in
+    let r = room-left ls h in
+    record {
+      bank = calls-bank newWriter ls (lit< tt);
+      batch = omega arith;
+      number = omega arith;
+      batch-records = omega arith;
+      batch-sum = omega arith;
+      file-batches = omega arith;
+      file-records = λ e. let one = end-turn (s .phase) e in omega arith;
+    }

@@ -1,0 +1,116 @@
+-- Calls one after the other: the reader takes every line that they write, and counts what was put in. Assumes nothing.
+use mathlib.Core.Path.{_≡_, refl, sym, _∙_}
+use mathlib.Core.Bool.{true}
+use mathlib.Core.List.{List, _++_}
+use Prim.Native.Nat.{ℕ, _<_, _≤_, _+_, _*_}
+use native.Mathlib.Omega.{arith}
+use borrow.Author.Tests.{eqb-true, lt-ltb, le-leb}
+use lib.Dec.{lit<}
+use lib.ListN.{length}
+use Rattle.answer.specs.Limits.{fileCents}
+use Rattle.answer.specs.Rules.{AllKept}
+use Rattle.answer.specs.declared.Answer.{Answer}
+use Rattle.answer.specs.declared.Answer.the-variants.{Accepted, Refused}
+use Rattle.checker.specs.Totals.{none, add}
+use Rattle.checker.specs.Line.{rulesOfLine, lineBytes}
+use Rattle.checker.specs.Machine.{start}
+use Rattle.checker.specs.File.{checkFile}
+use Rattle.checker.specs.Calls.{Reached, at-start, Through, here, further, Lines, empty, full}
+use Rattle.checker.specs.laws.Bounds.{bounded-sound}
+use Rattle.checker.specs.laws.Kept as checker
+use Rattle.checker.specs.laws.Reached.{reached-kept}
+use Rattle.checker.specs.laws.Runs.{lines-are}
+use Rattle.checker.specs.laws.Verdict.{through-reached, accepted-file}
+use Rattle.checker.specs.declared.order.Phase.the-variants.{Ended}
+use Rattle.checker.specs.declared.file.Outcome.the-variants as outcome
+use Rattle.checker.specs.declared.Checker.{Checker}
+use Rattle.writer.specs.Given.{Call, recordsOf}
+use Rattle.writer.specs.Refusals.{held, centsSoFar, mostDetails}
+use Rattle.writer.specs.Outcome.{newWriter, linesFor, stateAfter, answerOf}
+use Rattle.writer.specs.Calls.{AllWhole, Lent, WholeCalls, no-call, and-call, stateBehind, left, linesIf, written, fileOf, putBy, totalsIf, putIn}
+use Rattle.writer.specs.declared.Writer.{Writer}
+use Rattle.writer.specs.laws.TakesCall.{call-through}
+use Rattle.writer.specs.laws.Counted.{same-totals, add-none, none-add, add-assoc, counted, call-counted, call-cents}
+
+-- ---- one call, whatever its answer
+
+-- the machine takes what is written, and counts what is put in, and the sum of the file stays below its limit
+record Does (w : Writer) (c : Call) (a : Answer) : Type 0 where
+  through : Through (w .machine) (linesIf a (linesFor (w .machine) (recordsOf c))) (stateAfter a w (recordsOf c) .machine)
+  counts : counted (stateAfter a w (recordsOf c) .machine) ≡ add (counted (w .machine)) (totalsIf a (putBy c))
+  cents : centsSoFar (w .machine) < fileCents → centsSoFar (stateAfter a w (recordsOf c) .machine) < fileCents
+
+does : (w : Writer) (c : Call) (out : List ℕ) → AllWhole (recordsOf c) → Does w c (answerOf w c out)
+does w c out h = go (answerOf w c out) refl
+  where
+    go : (a : Answer) → answerOf w c out ≡ a → Does w c a
+    go Accepted e = record { through = call-through w c out h e; counts = call-counted w c out h e; cents = call-cents w c out h e }
+    go (Refused r) e = record { through = here; counts = sym (add-none (counted (w .machine))); cents = λ l. l }
+
+-- ---- calls one after the other
+
+through-append : {s t u : Checker} {xs ys : List (List ℕ)} → Through s xs t → Through t ys u → Through s (xs ++ ys) u
+through-append here q = q
+through-append (further k p) q = further k (through-append p q)
+
+calls-through : (w : Writer) {ls : List Lent} → WholeCalls ls → Through (w .machine) (written w ls) (left w ls .machine)
+unfolding written left
+calls-through w no-call = here
+calls-through w (and-call {l} h hs) = through-append (does w (l .call) (l .out) h .through) (calls-through (stateBehind w l) hs)
+
+calls-count : (w : Writer) {ls : List Lent} → WholeCalls ls → counted (left w ls .machine) ≡ add (counted (w .machine)) (putIn w ls)
+unfolding left putIn
+calls-count w no-call = sym (add-none (counted (w .machine)))
+calls-count w (and-call {l} h hs) = calls-count (stateBehind w l) hs ∙ rw (does w (l .call) (l .out) h .counts) (add-assoc (counted (w .machine)) _ _)
+
+calls-cents : (w : Writer) {ls : List Lent} → WholeCalls ls → centsSoFar (w .machine) < fileCents → centsSoFar (left w ls .machine) < fileCents
+unfolding left
+calls-cents w no-call l = l
+calls-cents w (and-call {l = c} h hs) l = calls-cents (stateBehind w c) hs (does w (c .call) (c .out) h .cents l)
+
+-- ---- a state that a reader's lines lead to
+
+held-kept : {s : Checker} → checker.Kept s → centsSoFar s < fileCents → held s ≡ true
+unfolding held
+held-kept {s} k few =
+    let b = checker.kept-bounded k in
+    let details : s .current .records .0 ≤ 1 + mostDetails * s .current .payments = omega arith in
+    rw (bounded-sound b, le-leb _ _ details, lt-ltb _ _ few)
+
+-- behind the file's trailer no batch is open
+ended-none : {s : Checker} → checker.Kept s → s .phase ≡ Ended → s .current ≡ none
+ended-none {s} k e = let closed : checker.stage (s .phase) .opened ≡ 0 = rw e in same-totals (omega arith)
+
+-- accepted lines are whole
+line-long : (s : Checker) (l : List ℕ) → AllKept (rulesOfLine s l) → length l ≡ lineBytes
+unfolding AllKept rulesOfLine
+line-long s l k = eqb-true _ _ (k .1 .0)
+
+through-lines : {s t : Checker} {ls : List (List ℕ)} → Through s ls t → Lines ls
+through-lines here = empty
+through-lines (further {s} {l = l} k on) = full l (line-long s l k) (through-lines on)
+
+-- ---- a file
+
+module _ (ls : List Lent) (h : WholeCalls ls) where
+  pub file-through : Through start (written newWriter ls) (left newWriter ls .machine)
+  file-through = calls-through newWriter h
+
+  pub machine-reached : Reached (left newWriter ls .machine)
+  machine-reached = through-reached at-start file-through
+
+  -- no calls leave a state that is guarded against
+  pub never-guarded : held (left newWriter ls .machine) ≡ true
+  never-guarded = held-kept (reached-kept machine-reached) (calls-cents newWriter h (lit< tt))
+
+  -- what is counted is what was put in
+  pub put-in : counted (left newWriter ls .machine) ≡ putIn newWriter ls
+  put-in = calls-count newWriter h ∙ simp none-add
+
+  -- a file that is closed is accepted, with the totals of what was put in
+  pub file-accepted : left newWriter ls .machine .phase ≡ Ended → checkFile (fileOf ls) ≡ outcome.Accepted (putIn newWriter ls)
+  file-accepted e =
+      let m = left newWriter ls .machine in
+      let lines = lines-are (fileOf ls) (written newWriter ls) .1 (through-lines file-through, refl) in
+      let all : putIn newWriter ls ≡ m .closed = sym put-in ∙ rw (ended-none (reached-kept machine-reached) e) (add-none (m .closed)) in
+      accepted-file (fileOf ls) (putIn newWriter ls) .1 (record { to = m; through = rw lines file-through; at-end = rw e; counted = all })

@@ -1,0 +1,242 @@
+// A payment's records, one behind the other.
+use super::given::Payment;
+use super::records::Tried;
+use super::records::put_line;
+use super::records::try_record;
+use answer::Answer;
+use answer::Cents;
+use answer::numbers;
+use checker::Checker;
+use checker::LINE_BYTES;
+use fields::Fields;
+use layout::Batch;
+use layout::Direction;
+use layout::Record;
+use layout::names;
+ghost use mathlib.Core.Path.{_≡_};
+ghost use mathlib.Core.Bool.{true};
+ghost use mathlib.Core.List.{_∷_, [], _++_, flatten};
+ghost use Prim.Native.Nat.{_+_, _≤_};
+ghost use lib.Dec.{ltb, eqb};
+ghost use lib.ListN.{length, take, drop};
+ghost use Rattle.answer.specs.Limits.{fileCents};
+ghost use Rattle.answer.specs.Rules.{rule, firstBroken};
+ghost use Rattle.checker.specs.Order.{first, second};
+ghost use Rattle.checker.specs.Machine.{sound};
+ghost use Rattle.writer.specs.Given.{amountOf, amountIn, recordsIn};
+ghost use Rattle.writer.specs.Refusals.{code, isOneOf, notes, nextBy, leastDetails, mostDetails, centsSoFar, size};
+ghost use Rattle.writer.specs.Steps.{linesThird, linesWith, TriesThird, TriesLater, TriesPayment, MayPay};
+
+// The answer, and where it accepts, the state behind all records and their fields as they are written.
+pub(crate) struct TriedPayment {
+    pub(crate) answer: Answer,
+    pub(crate) machine: Checker,
+    pub(crate) first: Fields,
+    pub(crate) second: Fields,
+    pub(crate) third: Fields,
+}
+
+// Kinds of record, told apart.
+fn code(which: Record) -> u8
+    ensures { λ r. ⌜ r ≡ code which ⌝ }
+{
+    match which {
+        Record::FileHeader => 0,
+        Record::BatchHeader => 1,
+        Record::SegmentA => 2,
+        Record::SegmentB => 3,
+        Record::SegmentJ => 4,
+        Record::SegmentJ52 => 5,
+        Record::SegmentZ => 6,
+        Record::BatchTrailer => 7,
+        Record::FileTrailer => 8,
+    }
+}
+
+fn is(which: Record, other: Record) -> bool
+    ensures { λ r. ⌜ r ≡ eqb (code which) (code other) ⌝ }
+{
+    code(which) == code(other)
+}
+
+// Whether a record is the one that begins a payment, its second, or the third.
+fn begins(which: Record, batch: Batch) -> bool
+    ensures { λ r. ⌜ r ≡ isOneOf which (first batch) ⌝ }
+{
+    match batch {
+        Batch::Credit => is(which, Record::SegmentA),
+        Batch::Boleto => is(which, Record::SegmentJ),
+        Batch::Unknown => false,
+    }
+}
+
+fn goes_on(which: Record, batch: Batch) -> bool
+    ensures { λ r. ⌜ r ≡ isOneOf which (second batch) ⌝ }
+{
+    match batch {
+        Batch::Credit => is(which, Record::SegmentB),
+        Batch::Boleto => is(which, Record::SegmentJ52),
+        Batch::Unknown => false,
+    }
+}
+
+fn notes(which: Record, dir: Direction) -> bool
+    ensures { λ r. ⌜ r ≡ isOneOf which (notes dir) ⌝ }
+{
+    match dir {
+        Direction::Remittance => false,
+        Direction::Return => is(which, Record::SegmentZ),
+    }
+}
+
+// The amount of a payment stands in its first record.
+fn amount_of(which: Record, v: Fields) -> u64
+    ensures { λ r. ⌜ r ≡ amountOf which v ⌝ }
+{
+    match which {
+        Record::FileHeader => 0,
+        Record::BatchHeader => 0,
+        Record::SegmentA => v.number_at(names::A_AMOUNT),
+        Record::SegmentB => 0,
+        Record::SegmentJ => v.number_at(names::J_AMOUNT),
+        Record::SegmentJ52 => 0,
+        Record::SegmentZ => 0,
+        Record::BatchTrailer => 0,
+        Record::FileTrailer => 0,
+    }
+}
+
+// The third record, if there is one.
+fn try_third(m: Checker, p: Payment, dir: Direction) -> Tried
+    requires { ⌜ sound m ≡ true ⌝ }
+    ensures { λ r. ⌜ TriesThird m dir p r ⌝ }
+{
+    if p.noted {
+        let third = p.third;
+        let which = third.which;
+        let v = third.fields;
+        return try_record(m, notes(which, dir), which, v);
+    }
+    let fields = Fields::none();
+    Tried {
+        answer: Answer::Accepted,
+        machine: m,
+        fields,
+    }
+}
+
+// The second record, and then the third.
+fn try_later(m: Checker, p: Payment, first: Fields, dir: Direction, batch: Batch) -> TriedPayment
+    requires { ⌜ sound m ≡ true ⌝ }
+    requires { ⌜ (isOneOf (p .second .which) (second batch) ≡ true → sound (nextBy m (p .second)) ≡ true) ⌝ }
+    ensures { λ r. ⌜ TriesLater m dir batch p first r ⌝ }
+{
+    let second = p.second;
+    let which = second.which;
+    let v = second.fields;
+    let tried = try_record(m, goes_on(which, batch), which, v);
+    let answer = tried.answer;
+    let second = tried.fields;
+    let machine = tried.machine;
+    match answer {
+        Answer::Refused(_) => TriedPayment {
+            answer,
+            machine,
+            first,
+            second,
+            third: second,
+        },
+        Answer::Accepted => {
+            let last = try_third(machine, p, dir);
+            let answer = last.answer;
+            let machine = last.machine;
+            let third = last.fields;
+            TriedPayment {
+                answer,
+                machine,
+                first,
+                second,
+                third,
+            }
+        }
+    }
+}
+
+// All records of a payment, up to the first that is refused. Nothing is written yet.
+pub(crate) fn try_payment(m: Checker, p: Payment) -> TriedPayment
+    requires { ⌜ MayPay m ⌝ }
+    ensures { λ r. ⌜ TriesPayment m p r ⌝ }
+{
+    let dir = m.direction();
+    let batch = m.batch();
+    let first = p.first;
+    let which = first.which;
+    let v = first.fields;
+    let tried = try_record(m, begins(which, batch), which, v);
+    let answer = tried.answer;
+    let fields = tried.fields;
+    let machine = tried.machine;
+    match answer {
+        Answer::Refused(_) => TriedPayment {
+            answer,
+            machine,
+            first: fields,
+            second: fields,
+            third: fields,
+        },
+        Answer::Accepted => try_later(machine, p, fields, dir, batch),
+    }
+}
+
+// The third line of a payment, if it has one.
+fn put_third(p: Payment, v: Fields, part: &mut [u8])
+    requires { ⌜ size (length (recordsIn p)) ≤ length (now part) ⌝ }
+    ensures { λ _. ⌜ now (part .exit) ≡ take (size leastDetails) (now (part .entry)) ++ (flatten (linesThird p v) ++ drop (size (length (recordsIn p))) (now (part .entry))) ⌝ }
+{
+    if p.noted {
+        let third = p.third;
+        let which = third.which;
+        put_line(v, which, &mut part[2 * LINE_BYTES..]);
+    }
+}
+
+// The lines of a payment, over the first bytes of this part of the output.
+pub(crate) fn put_payment(p: Payment, a: Fields, b: Fields, c: Fields, part: &mut [u8])
+    requires { ⌜ size (length (recordsIn p)) ≤ length (now part) ⌝ }
+    ensures { λ _. ⌜ now (part .exit) ≡ flatten (linesWith p a b c) ++ drop (size (length (recordsIn p))) (now (part .entry)) ⌝ }
+{
+    let first = p.first;
+    let second = p.second;
+    let which = first.which;
+    put_line(a, which, part);
+    let which = second.which;
+    put_line(b, which, &mut part[LINE_BYTES..]);
+    put_third(p, c, part);
+}
+
+// A payment's records, and the bytes of their lines.
+pub(crate) fn count_of(p: Payment) -> u64
+    ensures { λ r. ⌜ (r ≡ length (recordsIn p)) × (r ≤ mostDetails) ⌝ }
+{
+    if p.noted { 3 } else { 2 }
+}
+
+pub(crate) fn size_of(p: Payment) -> usize
+    ensures { λ r. ⌜ r ≡ size (length (recordsIn p)) ⌝ }
+{
+    LINE_BYTES * (count_of(p) as usize)
+}
+
+// The sum of all payments so far, with this one. What was paid so far fits 64 bits; the amount may be
+// any number.
+pub(crate) fn check_sum(m: Checker, p: Payment) -> Answer
+    requires { ⌜ sound m ≡ true ⌝ }
+    ensures { λ r. ⌜ r ≡ firstBroken (rule 23 0 (ltb (centsSoFar m + amountIn p) fileCents) ∷ []) ⌝ }
+{
+    let first = p.first;
+    let which = first.which;
+    let v = first.fields;
+    let paid = Cents(m.closed().cents.0 + m.current().cents.0);
+    let fits = paid.fit_a_file(Cents(amount_of(which, v)));
+    Answer::test(numbers::FILE_SUM, 0, fits)
+}

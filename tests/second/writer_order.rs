@@ -1,0 +1,157 @@
+//! The order in which document 01 tests a call to the writer.
+
+use crate::boleto_rules::{BoletoRule, BOLETO_RULES};
+use crate::faults::Fault;
+use crate::record_kinds::RecordKind;
+use crate::record_table::{self as table, Field};
+use crate::writer_faults::WriterFault;
+
+/// A row of document 01's numbers that can refuse a call. Some rows are about
+/// one record of the call, which is counted from 0.
+#[derive(Clone, Copy, PartialEq, Eq)]
+pub enum Row {
+    Turn,
+    Limit,
+    RecordLimit,
+    Bytes(usize),
+    Segment(usize),
+    Field(usize, Field),
+    Boleto(usize, BoletoRule),
+    Total,
+    Room,
+}
+
+impl Row {
+    /// The record of the call that the row is about.
+    pub fn record(self) -> Option<usize> {
+        match self {
+            Row::Bytes(at) | Row::Segment(at) | Row::Field(at, _) | Row::Boleto(at, _) => Some(at),
+            Row::Turn | Row::Limit | Row::RecordLimit | Row::Total | Row::Room => None,
+        }
+    }
+}
+
+/// The rows for a call with records of these kinds.
+pub fn rows_in_order(kinds: &[RecordKind], fault: Option<Fault>) -> Vec<Row> {
+    let mut rows = vec![Row::Turn, Row::Limit, Row::RecordLimit];
+    for (at, kind) in kinds.iter().enumerate() {
+        rows.extend([Row::Bytes(at), Row::Segment(at)]);
+        let fields = table::fields(*kind).into_iter();
+        rows.extend(fields.map(|field| Row::Field(at, field)));
+        if *kind == RecordKind::J {
+            rows.extend(BOLETO_RULES.map(|rule| Row::Boleto(at, rule)));
+        }
+    }
+    rows.extend([Row::Total, Row::Room]);
+    if let Some(Fault::Writer(fault)) = fault {
+        rows.sort_by_key(|row| Rank::of(*row).with(fault, *row));
+    }
+    rows
+}
+
+/// Where a row stands: first by its part of the call, then by record, within a
+/// record by its part of that, and then by place. There is space between the
+/// parts, so that a fault can move a row to another place in the order.
+#[derive(PartialEq, Eq, PartialOrd, Ord)]
+struct Rank {
+    part: i32,
+    record: i32,
+    part_of_record: i32,
+    place: i32,
+}
+
+const FIRST_OF_ALL: i32 = -10;
+const TURN: i32 = 0;
+const LIMIT: i32 = 10;
+const RECORD_LIMIT: i32 = 20;
+const BEFORE_RECORDS: i32 = 25;
+const RECORDS: i32 = 30;
+const BEHIND_RECORDS: i32 = 35;
+const TOTAL: i32 = 40;
+const ROOM: i32 = 50;
+const LAST_OF_ALL: i32 = 60;
+
+const FIRST_OF_RECORD: i32 = -10;
+const BYTES: i32 = 0;
+const SEGMENT: i32 = 10;
+const BEFORE_FIELDS: i32 = 15;
+const FIELDS: i32 = 20;
+const BEHIND_FIELDS: i32 = 25;
+const BOLETO: i32 = 30;
+
+const CHECK: i32 = 0;
+const DUE_DATE: i32 = 10;
+const CENTS: i32 = 20;
+const EQUATION: i32 = 30;
+
+impl Rank {
+    fn of(row: Row) -> Rank {
+        let (part, part_of_record, place) = match row {
+            Row::Turn => (TURN, 0, 0),
+            Row::Limit => (LIMIT, 0, 0),
+            Row::RecordLimit => (RECORD_LIMIT, 0, 0),
+            Row::Bytes(_) => (RECORDS, BYTES, 0),
+            Row::Segment(_) => (RECORDS, SEGMENT, 0),
+            Row::Field(_, field) => (RECORDS, FIELDS, field.first as i32),
+            Row::Boleto(_, rule) => (RECORDS, BOLETO, place_of_rule(rule)),
+            Row::Total => (TOTAL, 0, 0),
+            Row::Room => (ROOM, 0, 0),
+        };
+        Rank {
+            part,
+            record: row.record().unwrap_or(0) as i32,
+            part_of_record,
+            place,
+        }
+    }
+
+    /// The rank that a mistake gives to a row.
+    fn with(mut self, fault: WriterFault, row: Row) -> Rank {
+        match (fault, row) {
+            (WriterFault::LimitBeforeTurn, Row::Limit) => self.part = FIRST_OF_ALL,
+            (WriterFault::RoomFirst, Row::Room) => self.part = FIRST_OF_ALL,
+            (WriterFault::RoomBeforeLimit, Row::Room) => self.part = LIMIT - 1,
+            (WriterFault::RoomBeforeRecords, Row::Room) => self.part = BEFORE_RECORDS,
+            (WriterFault::TurnBehindRecords, Row::Turn) => self.part = BEHIND_RECORDS,
+            (WriterFault::LimitBehindRecords, Row::Limit) => self.part = BEHIND_RECORDS,
+            (WriterFault::LimitBehindRoom, Row::Limit) => self.part = LAST_OF_ALL,
+            (WriterFault::BytesOfAllRecordsFirst, Row::Bytes(_))
+            | (WriterFault::SegmentsOfAllRecordsFirst, Row::Segment(_)) => {
+                self.part = BEFORE_RECORDS;
+            }
+            (WriterFault::BoletoRulesBehindRecords, Row::Boleto(..)) => self.part = BEHIND_RECORDS,
+            (WriterFault::RecordsFromTheLast, _) => self.record = -self.record,
+            (WriterFault::SegmentBeforeBytes, Row::Segment(_)) => {
+                self.part_of_record = FIRST_OF_RECORD;
+            }
+            (WriterFault::SegmentBehindFields, Row::Segment(_)) => {
+                self.part_of_record = BEHIND_FIELDS;
+            }
+            (WriterFault::BytesBehindFields, Row::Bytes(_)) => self.part_of_record = BEHIND_FIELDS,
+            (WriterFault::BoletoRulesBeforeFields, Row::Boleto(..)) => {
+                self.part_of_record = BEFORE_FIELDS;
+            }
+            (WriterFault::FieldsFromTheRight, Row::Field(..)) => self.place = -self.place,
+            (WriterFault::DueDateBeforeCheck, Row::Boleto(_, BoletoRule::DueDate)) => {
+                self.place = CHECK - 1;
+            }
+            (WriterFault::CentsBeforeDueDate, Row::Boleto(_, BoletoRule::Cents)) => {
+                self.place = DUE_DATE - 1;
+            }
+            (WriterFault::EquationBeforeCents, Row::Boleto(_, BoletoRule::Equation)) => {
+                self.place = CENTS - 1;
+            }
+            _ => {}
+        }
+        self
+    }
+}
+
+fn place_of_rule(rule: BoletoRule) -> i32 {
+    match rule {
+        BoletoRule::GeneralCheck => CHECK,
+        BoletoRule::DueDate => DUE_DATE,
+        BoletoRule::Cents => CENTS,
+        BoletoRule::Equation => EQUATION,
+    }
+}
