@@ -79,4 +79,8 @@ module _ {w : Writer} {out after : List ℕ} {r : Written} {turn : Answer} where
   unfolding allGiven
   one-due g due ys e h =
       let here = givenOnLine true (w .machine) g in
-      record { answered = h .answered ∙ rw e (ap (λ (xs : List Rule). andThen turn (firstBroken (xs ++ ys))) (sym (append-nil here))); moved = h .moved; memory = h .memory }
+      record {
+        answered = h .answered ∙ rw e (ap (λ (xs : List Rule). andThen turn (firstBroken (xs ++ ys))) (sym (append-nil here)));
+        moved = h .moved;
+        memory = h .memory;
+      }

@@ -14,13 +14,16 @@ use Rattle.writer.proofs.Writer.open_batch.Tie as tie
 turn-said : (c : tie.After-check-turn) → let a = c .before .before .before .before .before .before .args in c .check-turn .result ≡ firstBroken (turnRules (openBatch (a .v)) (a .self .machine))
 turn-said c =
     let a = c .before .before .before .before .before .before .args in
-    c .check-turn .ensures ∙ rw (c .before .before .turns-at .ensures, c .before .before .before .phase .ensures) (turn-is (a .self .machine) _ _ (c .before .batch-limits .ensures))
+    c .check-turn .ensures
+    ∙ rw (c .before .before .turns-at .ensures, c .before .before .before .phase .ensures) (turn-is (a .self .machine) _ _ (c .before .batch-limits .ensures))
 
 write-one-requires : tie.Need-write-one-requires
 write-one-requires c κs = λ t. in-turn _ _ (turn-said (c .before)) t
 
 returns : tie.Need-returns
-returns c = let a = c .before .before .before .before .before .before .before .before .before .before .args in whole-call (openBatch (a .v)) (turn-said (c .before .before .before .before)) (one-due (given BatchHeader (a .v)) ((BatchHeader ∷ []) ∷ []) _ refl (c .before .before .write-one .ensures))
+returns c =
+    let a = c .before .before .before .before .before .before .before .before .before .before .args in
+    whole-call (openBatch (a .v)) (turn-said (c .before .before .before .before)) (one-due (given BatchHeader (a .v)) ((BatchHeader ∷ []) ∷ []) _ refl (c .before .before .write-one .ensures))
 
 pub open-batch-spec : {M : Type 1} → statement M
 open-batch-spec =

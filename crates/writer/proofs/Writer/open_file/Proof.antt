@@ -21,7 +21,9 @@ write-one-requires : tie.Need-write-one-requires
 write-one-requires c κs = λ t. in-turn _ _ (turn-said (c .before)) t
 
 returns : tie.Need-returns
-returns c = let a = c .before .before .before .before .before .before .before .before .before .args in whole-call (openFile (a .v)) (turn-said (c .before .before .before .before)) (one-due (given FileHeader (a .v)) ((FileHeader ∷ []) ∷ []) _ refl (c .before .before .write-one .ensures))
+returns c =
+    let a = c .before .before .before .before .before .before .before .before .before .args in
+    whole-call (openFile (a .v)) (turn-said (c .before .before .before .before)) (one-due (given FileHeader (a .v)) ((FileHeader ∷ []) ∷ []) _ refl (c .before .before .write-one .ensures))
 
 pub open-file-spec : {M : Type 1} → statement M
 open-file-spec =

@@ -12,13 +12,17 @@ turn-said : (c : tie.After-check-turn) → let a = c .before .before .before .be
 turn-said c =
     let a = c .before .before .before .before .before .before .before .args in
     c .check-turn .ensures
-    ∙ rw (c .before .before .before .turns-at .ensures, c .before .before .before .before .phase .ensures) (turn-is (a .self .machine) _ _ (rw (c .before .before .count-of .ensures .0) at (c .before .payment-limits .ensures)))
+    ∙ rw (c .before .before .before .turns-at .ensures, c .before .before .before .before .phase .ensures)
+    (turn-is (a .self .machine) _ _
+    (rw (c .before .before .count-of .ensures .0) at (c .before .payment-limits .ensures)))
 
 write-payment-requires : tie.Need-write-payment-requires
 write-payment-requires c κs = λ t. may-pay _ (c .before .before .before .before .before .before .before .before .args .p) (turn-said (c .before)) t
 
 returns : tie.Need-returns
-returns c = let a = c .before .before .before .before .before .before .before .before .before .before .before .args in whole-call (pay (a .p)) (turn-said (c .before .before .before .before)) (c .before .before .write-payment .ensures)
+returns c =
+    let a = c .before .before .before .before .before .before .before .before .before .before .before .args in
+    whole-call (pay (a .p)) (turn-said (c .before .before .before .before)) (c .before .before .write-payment .ensures)
 
 pub payment-spec : {M : Type 1} → statement M
 payment-spec =

@@ -56,13 +56,22 @@ part-put-line-start : tie.Need-part-put-line-start
 part-put-line-start c = omega (arith, roomy (c .before .before .before .before) (c .before .before .enum-told4 .given .1))
 
 put-line-requires : tie.Need-put-line-requires
-put-line-requires c κs = let a = c .before .before .before .before .before .before .before .before .before .before .before .before .before .before .before .args in let fits = roomy (c .before .before .before .before .before) (c .before .before .before .enum-told4 .given .1) in rw (whole (a .self .cursor) (now (a .out)) (omega arith), length-drop) (omega arith)
+put-line-requires c κs =
+    let a = c .before .before .before .before .before .before .before .before .before .before .before .before .before .before .before .args in
+    let fits = roomy (c .before .before .before .before .before) (c .before .before .before .enum-told4 .given .1) in
+    rw (whole (a .self .cursor) (now (a .out)) (omega arith), length-drop) (omega arith)
 
 add-t21 : tie.Need-add-t21
-add-t21 c = omega (arith, roomy (c .before .before .before .before .before .before .before .before) (c .before .before .before .before .before .before .enum-told4 .given .1), c .before .before .before .before .before .before .before .before .before .before .before .before .before .before .before .before .before .before .good .1 .1 .1 .1 .0 .0)
+add-t21 c =
+    omega (
+      arith,
+      roomy (c .before .before .before .before .before .before .before .before) (c .before .before .before .before .before .before .enum-told4 .given .1),
+      c .before .before .before .before .before .before .before .before .before .before .before .before .before .before .before .before .before .before .good .1 .1 .1 .1 .0 .0,
+    )
 
 returns-2 : tie.Need-returns-2
-returns-2 c = refuses _ _ _ (c .before .before .before .before .before .before .before .before .before .enum-told .given .1) (answered (c .before .before)) (c .enum-told3 .given .1)
+returns-2 c =
+    refuses _ _ _ (c .before .before .before .before .before .before .before .before .before .enum-told .given .1) (answered (c .before .before)) (c .enum-told3 .given .1)
 
 returns-3 : tie.Need-returns-3
 unfolding linesFor behindAll flatten

@@ -40,7 +40,10 @@ answered c =
     joined (c .and-then2 .ensures) (allGiven (dueInPayment m) m (recordsIn (a .p))) (rulesOnLine (lineOf m) last)
     (c .before .before .before .before .before .before .before .before .try-payment .ensures .answered)
     (c .before .on-line .ensures
-    ∙ rw (c .before .before .next-line .ensures, ok) (ap (onLine (lineOf m)) (ahead (c .before .before .before .and-then .ensures) _ _ (c .before .before .before .before .before .before .check-sum .ensures) (rw (c .before .before .before .before .before .before .before .size-of .ensures) at (c .before .before .before .before .room .ensures))) ∙ sym (first-on-line (lineOf m) last)))
+    ∙ rw (c .before .before .next-line .ensures, ok) (ap (onLine (lineOf m))
+    (ahead (c .before .before .before .and-then .ensures) _ _ (c .before .before .before .before .before .before .check-sum .ensures)
+    (rw (c .before .before .before .before .before .before .before .size-of .ensures) at (c .before .before .before .before .room .ensures)))
+    ∙ sym (first-on-line (lineOf m) last)))
 
 roomy : (c : tie.After-and-then2) → c .and-then2 .result ≡ Accepted → let a = c .before .before .before .before .before .before .before .before .before .before .before .before .before .args in cursorBehind (a .self) (recordsIn (a .p)) ≤ length (now (a .out))
 roomy c e =
@@ -53,7 +56,8 @@ all-right : (c : tie.After-and-then2) → c .and-then2 .result ≡ Accepted → 
 all-right c e =
     let a = c .before .before .before .before .before .before .before .before .before .before .before .before .before .args in
     let m = a .self .machine in
-    c .before .before .before .before .before .before .before .before .try-payment .ensures .answered ∙ front-accepted (allGiven (dueInPayment m) m (recordsIn (a .p))) _ (sym (answered c) ∙ e)
+    c .before .before .before .before .before .before .before .before .try-payment .ensures .answered
+    ∙ front-accepted (allGiven (dueInPayment m) m (recordsIn (a .p))) _ (sym (answered c) ∙ e)
 
 returns : tie.Need-returns
 returns c = turned-away _ _ _ (c .enum-told2 .given .1)
@@ -71,13 +75,23 @@ part-put-payment-start : tie.Need-part-put-payment-start
 part-put-payment-start c = omega (arith, roomy (c .before .before .before .before .before .before) (c .before .before .before .before .enum-told4 .given .1))
 
 put-payment-requires : tie.Need-put-payment-requires
-put-payment-requires c κs = let a = c .before .before .before .before .before .before .before .before .before .before .before .before .before .before .before .before .before .before .before .before .args in let fits = roomy (c .before .before .before .before .before .before .before) (c .before .before .before .before .before .enum-told4 .given .1) in rw (whole (a .self .cursor) (now (a .out)) (omega arith), length-drop) (omega arith)
+put-payment-requires c κs =
+    let a = c .before .before .before .before .before .before .before .before .before .before .before .before .before .before .before .before .before .before .before .before .args in
+    let fits = roomy (c .before .before .before .before .before .before .before) (c .before .before .before .before .before .enum-told4 .given .1) in
+    rw (whole (a .self .cursor) (now (a .out)) (omega arith), length-drop) (omega arith)
 
 add-t24 : tie.Need-add-t24
-add-t24 c = rw (c .before .before .before .before .before .before .before .before .before .before .before .before .before .before .before .before .before .size-of .ensures) (omega (arith, roomy (c .before .before .before .before .before .before .before .before .before .before) (c .before .before .before .before .before .before .before .before .enum-told4 .given .1), c .before .before .before .before .before .before .before .before .before .before .before .before .before .before .before .before .before .before .before .before .before .before .before .good .1 .1 .1 .0 .0))
+add-t24 c =
+    rw (c .before .before .before .before .before .before .before .before .before .before .before .before .before .before .before .before .before .size-of .ensures)
+    (omega (
+      arith,
+      roomy (c .before .before .before .before .before .before .before .before .before .before) (c .before .before .before .before .before .before .before .before .enum-told4 .given .1),
+      c .before .before .before .before .before .before .before .before .before .before .before .before .before .before .before .before .before .before .before .before .before .before .before .good .1 .1 .1 .0 .0,
+    ))
 
 returns-2 : tie.Need-returns-2
-returns-2 c = refuses _ _ _ (c .before .before .before .before .before .before .before .before .before .before .before .before .enum-told .given .1) (answered (c .before .before)) (c .enum-told3 .given .1)
+returns-2 c =
+    refuses _ _ _ (c .before .before .before .before .before .before .before .before .before .before .before .before .enum-told .given .1) (answered (c .before .before)) (c .enum-told3 .given .1)
 
 returns-3 : tie.Need-returns-3
 returns-3 c =
@@ -89,7 +103,9 @@ returns-3 c =
     let tried = c .before .before .before .before .before .before .before .before .before .before .before .before .before .before .before .before .before .before .try-payment .ensures in
     let right = all-right (c .before .before .before .before .before .before .before .before .before .before) told in
     let paid = c .before .before .before .before .before .before .before .before .before .before .before .before .before .before .before .before .before .before .try-payment .result in
-    accepts _ _ _ (c .before .before .before .before .before .before .before .before .before .before .before .before .before .before .before .before .before .before .before .before .enum-told .given .1) (answered (c .before .before .before .before .before .before .before .before .before .before)) told (tried .moved right) (rw (c .before .before .before .before .before .before .before .before .before .before .before .before .before .before .before .before .before .size-of .ensures))
+    accepts _ _ _ (c .before .before .before .before .before .before .before .before .before .before .before .before .before .before .before .before .before .before .before .before .enum-told .given .1)
+    (answered (c .before .before .before .before .before .before .before .before .before .before)) told (tried .moved right)
+    (rw (c .before .before .before .before .before .before .before .before .before .before .before .before .before .before .before .before .before .size-of .ensures))
     (lent (a .self .cursor) out (omega arith) n (flatten (linesWith (a .p) (paid .first) (paid .second) (paid .third))) _ (c .before .before .put-payment .ensures)
     ∙ ap (λ (l : List (List ℕ)). take (a .self .cursor) out ++ (flatten l ++ drop (a .self .cursor + n) out)) (tried .made right))
 

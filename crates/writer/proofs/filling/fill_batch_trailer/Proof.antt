@@ -8,7 +8,8 @@ add-with-number : tie.Need-add-with-number
 add-with-number c = let b = c .before .before .before .pre in rw (c .before .before .current .ensures) (omega arith)
 
 returns : tie.Need-returns
-returns c = rw (c .with-number2 .ensures, c .before .with-number .ensures, c .before .before .before .fill-in-batch .ensures, c .before .before .before .before .current .ensures)
+returns c =
+    rw (c .with-number2 .ensures, c .before .with-number .ensures, c .before .before .before .fill-in-batch .ensures, c .before .before .before .before .current .ensures)
 
 pub fill-batch-trailer-spec : {M : Type 1} → statement M
 fill-batch-trailer-spec =

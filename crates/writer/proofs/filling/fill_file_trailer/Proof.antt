@@ -8,7 +8,8 @@ add-with-number : tie.Need-add-with-number
 add-with-number c = let b = c .before .before .before .before .before .before .pre in rw (c .before .before .before .before .before .closed .ensures) (omega arith)
 
 returns : tie.Need-returns
-returns c = rw (c .with-number4 .ensures, c .before .before .with-number3 .ensures, c .before .before .before .with-number2 .ensures, c .before .before .before .before .with-number .ensures, c .before .before .before .before .before .bank .ensures, c .before .before .before .before .before .before .closed .ensures)
+returns c =
+    rw (c .with-number4 .ensures, c .before .before .with-number3 .ensures, c .before .before .before .with-number2 .ensures, c .before .before .before .before .with-number .ensures, c .before .before .before .before .before .bank .ensures, c .before .before .before .before .before .before .closed .ensures)
 
 pub fill-file-trailer-spec : {M : Type 1} → statement M
 fill-file-trailer-spec =

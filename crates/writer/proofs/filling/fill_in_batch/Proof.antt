@@ -8,7 +8,8 @@ add-with-number : tie.Need-add-with-number
 add-with-number c = let b = c .before .before .before .before .pre in rw (c .before .closed .ensures) (omega arith)
 
 returns : tie.Need-returns
-returns c = rw (c .with-number2 .ensures, c .before .before .closed .ensures, c .before .before .before .with-number .ensures, c .before .before .before .before .bank .ensures)
+returns c =
+    rw (c .with-number2 .ensures, c .before .before .closed .ensures, c .before .before .before .with-number .ensures, c .before .before .before .before .bank .ensures)
 
 pub fill-in-batch-spec : {M : Type 1} → statement M
 fill-in-batch-spec =

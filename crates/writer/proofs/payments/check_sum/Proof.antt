@@ -6,10 +6,13 @@ use Rattle.writer.proofs.payments.check_sum.Statement.{statement}
 use Rattle.writer.proofs.payments.check_sum.Tie as tie
 
 add-t10 : tie.Need-add-t10
-add-t10 c = let b = bounded _ (c .before .before .before .before .before .before .pre) in rw (c .before .before .before .closed .ensures, c .before .before .current .ensures) (omega arith)
+add-t10 c =
+    let b = bounded _ (c .before .before .before .before .before .before .pre) in
+    rw (c .before .before .before .closed .ensures, c .before .before .current .ensures) (omega arith)
 
 returns : tie.Need-returns
-returns c = rw (c .test .ensures, c .before .fit-a-file .ensures, c .before .before .amount-of .ensures, c .before .before .before .before .before .before .closed .ensures, c .before .before .before .before .before .current .ensures)
+returns c =
+    rw (c .test .ensures, c .before .fit-a-file .ensures, c .before .before .amount-of .ensures, c .before .before .before .before .before .before .closed .ensures, c .before .before .before .before .before .current .ensures)
 
 pub check-sum-spec : {M : Type 1} → statement M
 check-sum-spec =

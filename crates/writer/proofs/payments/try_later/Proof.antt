@@ -6,13 +6,22 @@ use Rattle.writer.proofs.payments.try_later.Statement.{statement}
 use Rattle.writer.proofs.payments.try_later.Tie as tie
 
 try-third-requires : tie.Need-try-third-requires
-try-third-requires c κs = let a = c .before .before .before .before .before .before .before .before .args in let h = (rw (c .before .before .before .before .before .goes-on .ensures) at (c .before .before .before .before .try-record .ensures)) in rw (h .moved) (c .before .before .before .before .before .before .before .before .pre .1 (was-due (a .m) (a .p .second) (second (a .batch)) h (c .enum-told2 .given .1)))
+try-third-requires c κs =
+    let a = c .before .before .before .before .before .before .before .before .args in
+    let h = (rw (c .before .before .before .before .before .goes-on .ensures) at (c .before .before .before .before .try-record .ensures)) in
+    rw (h .moved) (c .before .before .before .before .before .before .before .before .pre .1 (was-due (a .m) (a .p .second) (second (a .batch)) h (c .enum-told2 .given .1)))
 
 returns : tie.Need-returns
-returns c = let a = c .before .before .before .before .before .before .before .before .args in later-stopped (a .m) (a .dir) (a .batch) (a .p) (a .first) (rw (c .before .before .before .before .before .goes-on .ensures) at (c .before .before .before .before .try-record .ensures)) _ (c .enum-told .given .1)
+returns c =
+    let a = c .before .before .before .before .before .before .before .before .args in
+    later-stopped (a .m) (a .dir) (a .batch) (a .p) (a .first)
+    (rw (c .before .before .before .before .before .goes-on .ensures) at (c .before .before .before .before .try-record .ensures)) _ (c .enum-told .given .1)
 
 returns-2 : tie.Need-returns-2
-returns-2 c = let a = c .before .before .before .before .before .before .before .before .before .before .before .args in later-gone-on (a .m) (a .dir) (a .batch) (a .p) (a .first) (rw (c .before .before .before .before .before .before .before .before .goes-on .ensures) at (c .before .before .before .before .before .before .before .try-record .ensures)) (c .before .before .before .enum-told2 .given .1) (c .before .before .try-third .ensures)
+returns-2 c =
+    let a = c .before .before .before .before .before .before .before .before .before .before .before .args in
+    later-gone-on (a .m) (a .dir) (a .batch) (a .p) (a .first)
+    (rw (c .before .before .before .before .before .before .before .before .goes-on .ensures) at (c .before .before .before .before .before .before .before .try-record .ensures)) (c .before .before .before .enum-told2 .given .1) (c .before .before .try-third .ensures)
 
 pub try-later-spec : {M : Type 1} → statement M
 try-later-spec =

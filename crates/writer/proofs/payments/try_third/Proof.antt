@@ -5,7 +5,9 @@ use Rattle.writer.proofs.payments.try_third.Statement.{statement}
 use Rattle.writer.proofs.payments.try_third.Tie as tie
 
 returns : tie.Need-returns
-returns c = let a = c .before .before .before .before .before .args in third-tried (a .m) (a .dir) (a .p) _ (c .try-record .result) (c .before .before .before .before .if1 .taken) (c .before .notes .ensures) (c .try-record .ensures)
+returns c =
+    let a = c .before .before .before .before .before .args in
+    third-tried (a .m) (a .dir) (a .p) _ (c .try-record .result) (c .before .before .before .before .if1 .taken) (c .before .notes .ensures) (c .try-record .ensures)
 
 returns-2 : tie.Need-returns-2
 returns-2 c = let a = c .before .before .args in third-absent (a .m) (a .dir) (a .p) _ (c .before .if1 .left)

@@ -7,7 +7,8 @@ use Rattle.writer.proofs.turns.batch_limits.Statement.{statement}
 use Rattle.writer.proofs.turns.batch_limits.Tie as tie
 
 returns : tie.Need-returns
-returns c = ahead (c .and-then .ensures) _ _ (c .before .before .before .test .ensures ∙ rw (c .before .before .before .before .before .closed .ensures, below)) (c .before .test2 .ensures ∙ rw (c .before .before .fits-file .ensures))
+returns c =
+    ahead (c .and-then .ensures) _ _ (c .before .before .before .test .ensures ∙ rw (c .before .before .before .before .before .closed .ensures, below)) (c .before .test2 .ensures ∙ rw (c .before .before .fits-file .ensures))
 
 pub batch-limits-spec : {M : Type 1} → statement M
 batch-limits-spec =

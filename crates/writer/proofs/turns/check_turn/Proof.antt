@@ -10,7 +10,9 @@ returns : tie.Need-returns
 returns c = rw (sym (c .before .before .is-held .ensures) ∙ not-true _ (c .before .if1 .taken), c .refused .ensures)
 
 returns-2 : tie.Need-returns-2
-returns-2 c = let e = sym (c .before .before .before .before .before .is-held .ensures) ∙ not-false _ (c .before .before .before .before .if1 .left) in rw (e, c .on-line .ensures, c .before .next-line .ensures, held-sound _ e, c .before .before .and-then .ensures, c .before .before .before .test .ensures)
+returns-2 c =
+    let e = sym (c .before .before .before .before .before .is-held .ensures) ∙ not-false _ (c .before .before .before .before .if1 .left) in
+    rw (e, c .on-line .ensures, c .before .next-line .ensures, held-sound _ e, c .before .before .and-then .ensures, c .before .before .before .test .ensures)
 
 pub check-turn-spec : {M : Type 1} → statement M
 check-turn-spec =

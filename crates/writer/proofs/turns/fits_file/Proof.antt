@@ -8,13 +8,18 @@ use Rattle.writer.proofs.turns.fits_file.Statement.{statement}
 use Rattle.writer.proofs.turns.fits_file.Tie as tie
 
 add-t6 : tie.Need-add-t6
-add-t6 c = let h = leb-true (c .before .before .before .before .before .closed .result .records .0 + c .before .before .before .before .current .result .records .0) 999999 (sym (c .before .before .before .fit-a-file .ensures) ∙ c .before .before .if1 .taken) in omega (arith, h)
+add-t6 c =
+    let h = leb-true (c .before .before .before .before .before .closed .result .records .0 + c .before .before .before .before .current .result .records .0) 999999 (sym (c .before .before .before .fit-a-file .ensures) ∙ c .before .before .if1 .taken) in
+    omega (arith, h)
 
 returns : tie.Need-returns
 returns c = rw (c .fit-a-file2 .ensures, c .before .before .before .before .before .before .closed .ensures, c .before .before .before .before .before .current .ensures)
 
 returns-2 : tie.Need-returns-2
-returns-2 c = let a = c .before .before .before .closed .result .records .0 + c .before .before .current .result .records .0 in let h = leb-false a 999999 (sym (c .before .fit-a-file .ensures) ∙ c .if1 .left) in rw (← (c .before .before .current .ensures), ← (c .before .before .before .closed .ensures), c .if1 .left) (sym (lt-leb (a + c .before .before .before .before .args .more .0) 999999 (omega (arith, h))))
+returns-2 c =
+    let a = c .before .before .before .closed .result .records .0 + c .before .before .current .result .records .0 in
+    let h = leb-false a 999999 (sym (c .before .fit-a-file .ensures) ∙ c .if1 .left) in
+    rw (← (c .before .before .current .ensures), ← (c .before .before .before .closed .ensures), c .if1 .left) (sym (lt-leb (a + c .before .before .before .before .args .more .0) 999999 (omega (arith, h))))
 
 pub fits-file-spec : {M : Type 1} → statement M
 fits-file-spec =
