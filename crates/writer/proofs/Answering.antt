@@ -5,7 +5,7 @@ use mathlib.Core.List.{List, [], _∷_, _++_, append-nil}
 use Prim.Native.Nat.{ℕ, _≤_}
 use borrow.Author.Tests.{leb-true}
 use lib.ListN.{length}
-use Rattle.answer.specs.Rules.{Rule, rule, rulesOnLine, firstBroken, AllKept, andThen, onLine, refusedAs}
+use Rattle.answer.specs.Rules.{Rule, rulesOnLine, firstBroken, AllKept, andThen, onLine, refusedAs}
 use Rattle.answer.specs.Output.{room}
 use Rattle.answer.specs.declared.LineNo.{LineNo}
 use Rattle.answer.specs.declared.Refusal.{Refusal}
@@ -16,7 +16,7 @@ use Rattle.layout.specs.declared.Record.{Record}
 use Rattle.checker.specs.Machine.{lineOf}
 use Rattle.checker.specs.declared.Checker.{Checker}
 use Rattle.writer.specs.Given.{Call, pay, recordsOf}
-use Rattle.writer.specs.Refusals.{held, turnRules, isOneOf, dueIn, dueNow, givenOnLine, allGiven, lastRules, callRules}
+use Rattle.writer.specs.Refusals.{turnRule, held, turnRules, isOneOf, dueIn, dueNow, givenOnLine, allGiven, lastRules, callRules}
 use Rattle.writer.specs.Outcome.{writer, behindAll, cursorBehind, outputAfter, answerOf, Wrote}
 use Rattle.writer.specs.Steps.{turnOf, MayPay, WroteIn}
 use Rattle.writer.specs.declared.given.Detail.{Detail}
@@ -49,12 +49,12 @@ has-room xs rs line n out e =
 -- ---- the turn
 
 pub turn-is : (s : Checker) (may : Bool) {limits : Answer} (ls : List Rule) → limits ≡ firstBroken ls
-    → turnOf s may limits ≡ firstBroken (rule 51 0 (held s) ∷ rulesOnLine (lineOf s) (rule 51 0 may ∷ ls))
+    → turnOf s may limits ≡ firstBroken (turnRule (held s) ∷ rulesOnLine (lineOf s) (turnRule may ∷ ls))
 unfolding firstBroken
-turn-is s may {limits} ls e = ap (λ (a : Answer). cond (held s) a (refusedAs 51 0)) (ap (onLine (lineOf s)) (one-then (rule 51 0 may) ls limits e) ∙ sym (first-on-line (lineOf s) (rule 51 0 may ∷ ls)))
+turn-is s may {limits} ls e = ap (λ (a : Answer). cond (held s) a (refusedAs 51 0)) (ap (onLine (lineOf s)) (one-then (turnRule may) ls limits e) ∙ sym (first-on-line (lineOf s) (turnRule may ∷ ls)))
 
 -- a call in turn has a state that is held
-pub in-turn : {turn : Answer} (s : Checker) (rs : List Rule) → turn ≡ firstBroken (rule 51 0 (held s) ∷ rs) → turn ≡ Accepted → held s ≡ true
+pub in-turn : {turn : Answer} (s : Checker) (rs : List Rule) → turn ≡ firstBroken (turnRule (held s) ∷ rs) → turn ≡ Accepted → held s ≡ true
 unfolding AllKept
 in-turn s rs e t = accepted-kept _ (sym e ∙ t) .0
 

@@ -22,6 +22,7 @@ use Rattle.checker.specs.declared.Checker.{Checker}
 use Rattle.writer.specs.Given.{Call, openFile, openBatch, pay, closeBatch, closeFile, recordsIn, recordsOf, amountIn}
 use Rattle.writer.specs.Filling.{bytesOf}
 use Rattle.writer.specs.declared.given.Detail.{Detail}
+use Rattle.writer.specs.declared.given.Payment.{Payment}
 use Rattle.writer.specs.declared.turns.Turns.{Turns}
 use Rattle.writer.specs.declared.Writer.{Writer}
 
@@ -30,6 +31,9 @@ use Rattle.writer.specs.declared.Writer.{Writer}
 -- which calls are in turn: to open the file, to open a batch, to pay, to close the batch, to close the file
 abbrev pub may : Bool → Bool → Bool → Bool → Bool → Turns
 may a b c d e = record { header = a; batch = b; payment = c; trailer = d; end = e }
+
+abbrev pub turnRule : Bool → Rule
+turnRule kept = rule 51 0 kept
 
 -- a batch is closed behind a payment, and a file behind a batch
 abbrev pub turns : Phase → Turns
@@ -68,22 +72,21 @@ fitsBatch records = fitsFile records (1 + leastDetails + trailers)
 abbrev pub fitsPayment : ℕ → ℕ → Bool
 fitsPayment records details = fitsFile records (details + trailers)
 
+abbrev pub batchLimits : Checker → List Rule
+batchLimits s = rule 20 typePlace (leb (ordinal s) mostBatches) ∷ rule 25 0 (fitsBatch (recordsSoFar s)) ∷ []
+
+abbrev pub paymentLimits : ℕ → Checker → List Rule
+paymentLimits details s =
+    rule 20 segmentPlace (leb (s .current .payments + 1) mostPayments) ∷ rule 25 0 (fitsPayment (recordsSoFar s) details) ∷ []
+
 -- ---- 51, 20 and 25
 
 abbrev pub turnLimits : Call → Checker → List Rule
-turnLimits (openFile v) s = rule 51 0 (turns (s .phase) .header) ∷ []
-turnLimits (openBatch v) s =
-    rule 51 0 (turns (s .phase) .batch)
-    ∷ rule 20 typePlace (leb (ordinal s) mostBatches)
-    ∷ rule 25 0 (fitsBatch (recordsSoFar s))
-    ∷ []
-turnLimits (pay p) s =
-    rule 51 0 (turns (s .phase) .payment)
-    ∷ rule 20 segmentPlace (leb (s .current .payments + 1) mostPayments)
-    ∷ rule 25 0 (fitsPayment (recordsSoFar s) (length (recordsIn p)))
-    ∷ []
-turnLimits (closeBatch v) s = rule 51 0 (turns (s .phase) .trailer) ∷ []
-turnLimits (closeFile v) s = rule 51 0 (turns (s .phase) .end) ∷ []
+turnLimits (openFile v) s = turnRule (turns (s .phase) .header) ∷ []
+turnLimits (openBatch v) s = turnRule (turns (s .phase) .batch) ∷ batchLimits s
+turnLimits (pay p) s = turnRule (turns (s .phase) .payment) ∷ paymentLimits (length (recordsIn p)) s
+turnLimits (closeBatch v) s = turnRule (turns (s .phase) .trailer) ∷ []
+turnLimits (closeFile v) s = turnRule (turns (s .phase) .end) ∷ []
 
 -- ---- record by record the reader's 4, 11, fields and 16 to 19
 
@@ -109,10 +112,13 @@ notes Remittance = []
 notes Return = SegmentZ ∷ []
 
 -- the records that are due, at each position
+abbrev pub dueInPayment : Checker → List (List Record)
+dueInPayment s = first (s .batch) ∷ second (s .batch) ∷ notes (s .dir) ∷ []
+
 abbrev pub dueIn : Call → Checker → List (List Record)
 dueIn (openFile v) s = (FileHeader ∷ []) ∷ []
 dueIn (openBatch v) s = (BatchHeader ∷ []) ∷ []
-dueIn (pay p) s = first (s .batch) ∷ second (s .batch) ∷ notes (s .dir) ∷ []
+dueIn (pay p) s = dueInPayment s
 dueIn (closeBatch v) s = (BatchTrailer ∷ []) ∷ []
 dueIn (closeFile v) s = (FileTrailer ∷ []) ∷ []
 
@@ -143,10 +149,13 @@ allGiven due s (g ∷ gs) = givenOnLine (isOneOf (g .which) (dueNow due)) s g ++
 abbrev pub centsSoFar : Checker → ℕ
 centsSoFar s = s .closed .cents .0 + s .current .cents .0
 
+abbrev pub sumRule : Checker → Payment → Rule
+sumRule s p = rule 23 0 (ltb (centsSoFar s + amountIn p) fileCents)
+
 abbrev pub sumRules : Call → Checker → List Rule
 sumRules (openFile v) s = []
 sumRules (openBatch v) s = []
-sumRules (pay p) s = rule 23 0 (ltb (centsSoFar s + amountIn p) fileCents) ∷ []
+sumRules (pay p) s = sumRule s p ∷ []
 sumRules (closeBatch v) s = []
 sumRules (closeFile v) s = []
 
@@ -164,7 +173,7 @@ unfoldable pub held : Checker → Bool
 held s = sound s && (leb (s .current .records .0) (1 + mostDetails * s .current .payments) && ltb (centsSoFar s) fileCents)
 
 abbrev pub turnRules : Call → Checker → List Rule
-turnRules c s = rule 51 0 (held s) ∷ rulesOnLine (lineOf s) (turnLimits c s)
+turnRules c s = turnRule (held s) ∷ rulesOnLine (lineOf s) (turnLimits c s)
 
 unfoldable pub callRules : Writer → Call → List ℕ → List Rule
 callRules w c out =

@@ -3,9 +3,7 @@ use mathlib.Core.Path.{_≡_}
 use mathlib.Core.Bool.{Bool, true, cond}
 use mathlib.Core.List.{List, [], _∷_, _++_}
 use Prim.Native.Nat.{ℕ, _+_, _≤_}
-use lib.Dec.{ltb}
-use Rattle.answer.specs.Limits.{fileCents}
-use Rattle.answer.specs.Rules.{Rule, rule, rulesOnLine, refusedAs, firstBroken, andThen, onLine}
+use Rattle.answer.specs.Rules.{Rule, rulesOnLine, refusedAs, firstBroken, andThen, onLine}
 use Rattle.answer.specs.Output.{room}
 use Rattle.answer.specs.declared.Answer.{Answer}
 use Rattle.answer.specs.declared.Answer.the-variants.{Accepted}
@@ -18,9 +16,9 @@ use Rattle.checker.specs.Order.{first, second}
 use Rattle.checker.specs.Line.{mostPayments}
 use Rattle.checker.specs.Machine.{lineOf}
 use Rattle.checker.specs.declared.Checker.{Checker}
-use Rattle.writer.specs.Given.{thirdIn, recordsIn, amountIn}
+use Rattle.writer.specs.Given.{thirdIn, recordsIn}
 use Rattle.writer.specs.Filling.{filled, lineFrom}
-use Rattle.writer.specs.Refusals.{notes, givenOnLine, allGiven, nextBy, centsSoFar, held}
+use Rattle.writer.specs.Refusals.{turnRule, dueInPayment, sumRule, notes, givenOnLine, allGiven, nextBy, held}
 use Rattle.writer.specs.Outcome.{linesFor, behindAll, cursorBehind, stateAfter, outputAfter}
 use Rattle.writer.specs.declared.given.Detail.{Detail}
 use Rattle.writer.specs.declared.given.Payment.{Payment}
@@ -31,7 +29,7 @@ use Rattle.writer.specs.declared.Written.{Written}
 
 -- 51, and then the limits, on the line that is next
 abbrev pub turnOf : Checker → Bool → Answer → Answer
-turnOf s may limits = cond (held s) (onLine (lineOf s) (andThen (firstBroken (rule 51 0 may ∷ [])) limits)) (refusedAs 51 0)
+turnOf s may limits = cond (held s) (onLine (lineOf s) (andThen (firstBroken (turnRule may ∷ [])) limits)) (refusedAs 51 0)
 
 -- a record that was tried: its answer, the state behind it, and its fields with what the writer fills
 pub record Tries (due : Bool) (s : Checker) (g : Detail) (t : Tried) : Type 0 where
@@ -55,9 +53,6 @@ pub record TriesThird (s : Checker) (d : Direction) (p : Payment) (t : Tried) : 
   pub answered : t .answer ≡ firstBroken (allGiven (notes d ∷ []) s (thirdIn p))
   pub moved : t .machine ≡ behindAll s (thirdIn p)
   pub made : linesThird p (t .fields) ≡ linesFor s (thirdIn p)
-
-abbrev pub dueInPayment : Checker → List (List Record)
-dueInPayment s = first (s .batch) ∷ second (s .batch) ∷ notes (s .dir) ∷ []
 
 -- the second and the third; the first has its fields already
 pub record TriesLater (s : Checker) (d : Direction) (b : Batch) (p : Payment) (v : Fields) (t : TriedPayment) : Type 0 where
@@ -86,7 +81,7 @@ oneRules w g out = givenOnLine true (w .machine) g ++ rulesOnLine (lineOf (w .ma
 abbrev pub paymentRules : Writer → Payment → List ℕ → List Rule
 paymentRules w p out =
     allGiven (dueInPayment (w .machine)) (w .machine) (recordsIn p)
-    ++ rulesOnLine (lineOf (w .machine)) (rule 23 0 (ltb (centsSoFar (w .machine) + amountIn p) fileCents) ∷ room (cursorBehind w (recordsIn p)) out ∷ [])
+    ++ rulesOnLine (lineOf (w .machine)) (sumRule (w .machine) p ∷ room (cursorBehind w (recordsIn p)) out ∷ [])
 
 -- what a call in turn leaves room for
 pub record MayPay (s : Checker) : Type 0 where

@@ -16,15 +16,14 @@ use layout::names;
 ghost use mathlib.Core.Path.{_≡_};
 ghost use mathlib.Core.Bool.{true};
 ghost use mathlib.Core.List.{_∷_, [], _++_, flatten};
-ghost use Prim.Native.Nat.{_+_, _≤_};
-ghost use lib.Dec.{ltb, eqb};
+ghost use Prim.Native.Nat.{_≤_};
+ghost use lib.Dec.{eqb};
 ghost use lib.ListN.{length, take, drop};
-ghost use Rattle.answer.specs.Limits.{fileCents};
-ghost use Rattle.answer.specs.Rules.{rule, firstBroken};
+ghost use Rattle.answer.specs.Rules.{firstBroken};
 ghost use Rattle.checker.specs.Order.{first, second};
 ghost use Rattle.checker.specs.Machine.{sound};
-ghost use Rattle.writer.specs.Given.{amountOf, amountIn, recordsIn};
-ghost use Rattle.writer.specs.Refusals.{code, isOneOf, notes, nextBy, leastDetails, mostDetails, centsSoFar, size};
+ghost use Rattle.writer.specs.Given.{amountOf, recordsIn};
+ghost use Rattle.writer.specs.Refusals.{code, isOneOf, notes, nextBy, leastDetails, mostDetails, sumRule, size};
 ghost use Rattle.writer.specs.Steps.{linesThird, linesWith, TriesThird, TriesLater, TriesPayment, MayPay};
 
 // The answer, and where it accepts, the state behind all records and their fields as they are written.
@@ -231,7 +230,7 @@ pub(crate) fn size_of(p: Payment) -> usize
 // any number.
 pub(crate) fn check_sum(m: Checker, p: Payment) -> Answer
     requires { ⌜ sound m ≡ true ⌝ }
-    ensures { λ r. ⌜ r ≡ firstBroken (rule 23 0 (ltb (centsSoFar m + amountIn p) fileCents) ∷ []) ⌝ }
+    ensures { λ r. ⌜ r ≡ firstBroken (sumRule m p ∷ []) ⌝ }
 {
     let first = p.first;
     let which = first.which;

@@ -8,13 +8,9 @@ use checker::MOST_PAYMENTS;
 use checker::Phase;
 use checker::places;
 ghost use mathlib.Core.Path.{_≡_};
-ghost use mathlib.Core.List.{_∷_, []};
-ghost use Prim.Native.Nat.{_+_, _≤_};
-ghost use lib.Dec.{leb};
-ghost use Rattle.answer.specs.Rules.{rule, firstBroken};
-ghost use Rattle.layout.specs.Table.{typePlace, segmentPlace};
-ghost use Rattle.checker.specs.Line.{ordinal, mostBatches, mostPayments};
-ghost use Rattle.writer.specs.Refusals.{turns, recordsSoFar, fitsFile, fitsBatch, fitsPayment, mostDetails, held};
+ghost use Prim.Native.Nat.{_≤_};
+ghost use Rattle.answer.specs.Rules.{firstBroken};
+ghost use Rattle.writer.specs.Refusals.{turns, recordsSoFar, fitsFile, batchLimits, paymentLimits, mostDetails, held};
 ghost use Rattle.writer.specs.Steps.{turnOf};
 
 // What opening a batch asks room for: its header, a payment of two records, and two trailers.
@@ -100,7 +96,7 @@ fn fits_file(m: Checker, more: RecordCount) -> bool
 
 // What opening a batch asks beyond its turn.
 pub(crate) fn batch_limits(m: Checker) -> Answer
-    ensures { λ r. ⌜ r ≡ firstBroken (rule 20 typePlace (leb (ordinal m) mostBatches) ∷ rule 25 0 (fitsBatch (recordsSoFar m)) ∷ []) ⌝ }
+    ensures { λ r. ⌜ r ≡ firstBroken (batchLimits m) ⌝ }
 {
     let few = Answer::test(
         numbers::TOO_MANY,
@@ -113,7 +109,7 @@ pub(crate) fn batch_limits(m: Checker) -> Answer
 // What a payment of so many records asks beyond its turn.
 pub(crate) fn payment_limits(m: Checker, details: u64) -> Answer
     requires { ⌜ details ≤ mostDetails ⌝ }
-    ensures { λ r. ⌜ r ≡ firstBroken (rule 20 segmentPlace (leb (m .current .payments + 1) mostPayments) ∷ rule 25 0 (fitsPayment (recordsSoFar m) details) ∷ []) ⌝ }
+    ensures { λ r. ⌜ r ≡ firstBroken (paymentLimits details m) ⌝ }
 {
     let few = Answer::test(
         numbers::TOO_MANY,

@@ -23,10 +23,9 @@ use Rattle.checker.specs.declared.totals.Totals.{Totals}
 use Rattle.checker.specs.declared.Checker.{Checker}
 use Rattle.writer.specs.Given.{Call, openFile, openBatch, pay, closeBatch, closeFile, recordsIn, recordsOf, given, creditIndex, boletoIndex, amountOf}
 use Rattle.writer.specs.Filling.{bytesOf}
-use Rattle.writer.specs.Refusals.{dueIn, notes, centsSoFar, sumRules}
+use Rattle.writer.specs.Refusals.{dueInPayment, dueIn, notes, centsSoFar, sumRules}
 use Rattle.writer.specs.Outcome.{behindAll, answerOf}
 use Rattle.writer.specs.Calls.{AllWhole, putBy}
-use Rattle.writer.specs.Steps.{dueInPayment}
 use Rattle.writer.specs.declared.given.Detail.{Detail}
 use Rattle.writer.specs.declared.given.Payment.{Payment}
 use Rattle.writer.specs.declared.Writer.{Writer}

@@ -13,10 +13,9 @@ use Rattle.checker.specs.declared.order.Phase.the-variants.{Headed, Opened, Pai
 use Rattle.checker.specs.declared.Checker.{Checker}
 use Rattle.writer.specs.Given.{Call, openFile, openBatch, pay, closeBatch, closeFile, thirdIn, recordsIn}
 use Rattle.writer.specs.Filling.{bytesOf}
-use Rattle.writer.specs.Refusals.{notes, nextBy, allGiven, held, callRules}
+use Rattle.writer.specs.Refusals.{dueInPayment, notes, nextBy, allGiven, held, callRules}
 use Rattle.writer.specs.Outcome.{newWriter, behindAll, answerOf}
 use Rattle.writer.specs.Calls.{Lent, WholeCalls, stateBehind, left, lent}
-use Rattle.writer.specs.Steps.{dueInPayment}
 use Rattle.writer.specs.declared.given.Payment.{Payment}
 use Rattle.writer.specs.declared.Writer.{Writer}
 use Rattle.writer.specs.laws.Due.{never, goes-on, notes-it}

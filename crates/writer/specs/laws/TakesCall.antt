@@ -20,10 +20,10 @@ use Rattle.checker.specs.declared.totals.Totals.{Totals}
 use Rattle.checker.specs.declared.Checker.{Checker}
 use Rattle.writer.specs.Given.{Call, openFile, openBatch, pay, closeBatch, closeFile, recordsIn, recordsOf}
 use Rattle.writer.specs.Filling.{bytesOf}
-use Rattle.writer.specs.Refusals.{turns, notes, dueIn, nextBy}
+use Rattle.writer.specs.Refusals.{dueInPayment, turns, notes, dueIn, nextBy}
 use Rattle.writer.specs.Outcome.{answerOf, linesFor, behindAll}
 use Rattle.writer.specs.Calls.{AllWhole}
-use Rattle.writer.specs.Steps.{dueInPayment, MayPay}
+use Rattle.writer.specs.Steps.{MayPay}
 use Rattle.writer.specs.declared.given.Detail.{Detail}
 use Rattle.writer.specs.declared.given.Payment.{Payment}
 use Rattle.writer.specs.declared.Writer.{Writer}

@@ -1,10 +1,9 @@
 -- `writer::Writer::write_payment` meets its contract: the turn, the records, the sum, the room. Assumes nothing.
 use Prim.Native.Nat.{_+_, _≤_}
 use Prim.Native.Nat.{ℕ}
-use Rattle.answer.specs.Limits.{fileCents}
 use Rattle.answer.specs.Output.{room}
 use Rattle.answer.specs.Rules.{firstBroken, rulesOnLine}
-use Rattle.answer.specs.Rules.{rule, onLine}
+use Rattle.answer.specs.Rules.{onLine}
 use Rattle.answer.specs.declared.Answer.the-variants.{Accepted}
 use Rattle.answer.specs.laws.Order.{ahead, front-accepted}
 use Rattle.answer.specs.laws.Order.{joined, first-on-line}
@@ -13,13 +12,12 @@ use Rattle.writer.proofs.Answering.{turned-away, refuses, accepts, has-
 use Rattle.writer.proofs.Held.{held-sound}
 use Rattle.writer.proofs.Lent.{whole, lent}
 use Rattle.writer.specs.Given.{given}
-use Rattle.writer.specs.Given.{recordsIn, amountIn}
+use Rattle.writer.specs.Given.{recordsIn}
 use Rattle.writer.specs.Outcome.{cursorBehind}
-use Rattle.writer.specs.Refusals.{allGiven, centsSoFar, size}
-use Rattle.writer.specs.Steps.{paymentRules, dueInPayment, linesWith}
+use Rattle.writer.specs.Refusals.{dueInPayment, allGiven, sumRule, size}
+use Rattle.writer.specs.Steps.{paymentRules, linesWith}
 use borrow.Author.Needs.{needs}
 use denote.Ref.{now}
-use lib.Dec.{ltb}
 use lib.ListN.{length, length-drop}
 use lib.ListN.{take, drop}
 use mathlib.Core.List.{List, _++_, flatten}
@@ -35,7 +33,7 @@ answered c =
     let a = c .before .before .before .before .before .before .before .before .before .before .before .before .before .args in
     let w = a .self in
     let m = w .machine in
-    let last = rule 23 0 (ltb (centsSoFar m + amountIn (a .p)) fileCents) ∷ room (cursorBehind w (recordsIn (a .p))) (now (a .out)) ∷ [] in
+    let last = sumRule m (a .p) ∷ room (cursorBehind w (recordsIn (a .p))) (now (a .out)) ∷ [] in
     let ok = held-sound m (c .before .before .before .before .before .before .before .before .before .before .before .before .before .pre (c .before .before .before .before .before .before .before .before .before .before .enum-told .given .1) .is-held) in
     joined (c .and-then2 .ensures) (allGiven (dueInPayment m) m (recordsIn (a .p))) (rulesOnLine (lineOf m) last)
     (c .before .before .before .before .before .before .before .before .try-payment .ensures .answered)
@@ -49,7 +47,7 @@ roomy : (c : tie.After-and-then2) → c .and-then2 .result ≡ Accepted → let 
 roomy c e =
     let a = c .before .before .before .before .before .before .before .before .before .before .before .before .before .args in
     let m = a .self .machine in
-    has-room (allGiven (dueInPayment m) m (recordsIn (a .p))) (rule 23 0 (ltb (centsSoFar m + amountIn (a .p)) fileCents) ∷ []) (lineOf m) _ (now (a .out)) (sym (answered c) ∙ e)
+    has-room (allGiven (dueInPayment m) m (recordsIn (a .p))) (sumRule m (a .p) ∷ []) (lineOf m) _ (now (a .out)) (sym (answered c) ∙ e)
 
 -- and so the records are accepted
 all-right : (c : tie.After-and-then2) → c .and-then2 .result ≡ Accepted → c .before .before .before .before .before .before .before .before .try-payment .result .answer ≡ Accepted
