@@ -1,1 +1,5 @@
 pub mod Examples
+pub mod Calls
+pub mod Grammar
+pub mod Guarded
+pub mod laws

@@ -30,16 +30,16 @@ use Rattle.writer.specs.laws.Details.{Details, stands}
 
 -- ---- rules that are kept, one behind the other
 
-more : (r : Rule) (rs : List Rule) → r .kept ≡ true → AllKept rs → AllKept (r ∷ rs)
+pub more : (r : Rule) (rs : List Rule) → r .kept ≡ true → AllKept rs → AllKept (r ∷ rs)
 unfolding AllKept
 more r rs e k = (e, k)
 
-done : AllKept []
+pub done : AllKept []
 unfolding AllKept
 done = tt
 
 -- the rules of some fields, where those of all are kept
-within-kept : (a b : ℕ) (fs : List Field) (d : Direction) (rec : List ℕ) → AllKept (rulesOf fs d rec) → AllKept (rulesOf (within a b fs) d rec)
+pub within-kept : (a b : ℕ) (fs : List Field) (d : Direction) (rec : List ℕ) → AllKept (rulesOf fs d rec) → AllKept (rulesOf (within a b fs) d rec)
 unfolding within rulesOf
 within-kept a b [] d rec k = k
 within-kept a b (f ∷ fs) d rec k = go (leb a (f .from) && leb (f .to) b) (within-kept a b fs d rec (kept-behind (fieldRules f d rec) _ k))

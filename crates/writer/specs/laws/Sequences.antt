@@ -49,7 +49,7 @@ does w c out h = go (answerOf w c out) refl
 
 -- ---- calls one after the other
 
-through-append : {s t u : Checker} {xs ys : List (List ℕ)} → Through s xs t → Through t ys u → Through s (xs ++ ys) u
+pub through-append : {s t u : Checker} {xs ys : List (List ℕ)} → Through s xs t → Through t ys u → Through s (xs ++ ys) u
 through-append here q = q
 through-append (further k p) q = further k (through-append p q)
 
@@ -86,7 +86,7 @@ line-long : (s : Checker) (l : List ℕ) → AllKept (rulesOfLine s l) → lengt
 unfolding AllKept rulesOfLine
 line-long s l k = eqb-true _ _ (k .1 .0)
 
-through-lines : {s t : Checker} {ls : List (List ℕ)} → Through s ls t → Lines ls
+pub through-lines : {s t : Checker} {ls : List (List ℕ)} → Through s ls t → Lines ls
 through-lines here = empty
 through-lines (further {s} {l = l} k on) = full l (line-long s l k) (through-lines on)
 

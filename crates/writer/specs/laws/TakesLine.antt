@@ -39,13 +39,13 @@ takes-on {s} {t} {g} {ls} x on = let later : Through (stepOf s (lineFrom (bytesO
 
 -- a record of 240 bytes, and its CR and LF
 module _ (rec : List ℕ) (long : length rec ≡ recordBytes) where
-  record-in : recordIn (lineFrom rec) ≡ rec
+  pub record-in : recordIn (lineFrom rec) ≡ rec
   record-in = take-at rec _ recordBytes long
 
-  carriage-return : place 241 (lineFrom rec) ≡ 13
+  pub carriage-return : place 241 (lineFrom rec) ≡ 13
   carriage-return = getD-at rec 13 _ 0 240 long
 
-  line-feed : place 242 (lineFrom rec) ≡ 10
+  pub line-feed : place 242 (lineFrom rec) ≡ 10
   line-feed = let e : 241 ≡ length rec + 1 = omega arith in ap (λ (i : ℕ). getD (lineFrom rec) i 0) e ∙ getD-append-add rec _ 1 0
 
 module _ {due : List Record} {s : Checker} {g : Detail} (t : Right due s g) (ok : sound s ≡ true) where

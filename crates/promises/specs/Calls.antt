@@ -1,0 +1,173 @@
+-- How calls end: document 01's table of numbers with their places, and what is said of every call on the checker, on the writer, with one
+-- record and with digit strings. Assumes nothing.
+use mathlib.Core.Path.{_≡_}
+use mathlib.Core.Bool.{Bool, false, cond, _&&_, _||_}
+use mathlib.Core.List.{List, [], _∷_, _++_}
+use Prim.Native.Nat.{ℕ, suc, _+_, _≤_, _<_}
+use lib.Dec.{T, leb, eqb}
+use lib.ListN.{length}
+use Rattle.answer.specs.Rules.{firstBroken}
+use Rattle.answer.specs.Output.{Writes}
+use Rattle.answer.specs.declared.Refusal.{Refusal}
+use Rattle.answer.specs.declared.Answer.{Answer}
+use Rattle.answer.specs.declared.Answer.the-variants.{Accepted, Refused}
+use Rattle.boleto.specs.Strings.{barcodeDigits, lineDigits, currencyPlace, barcodeCheck, lineCheck, barcodeOf, lineOf as digitLineOf}
+use Rattle.boleto.specs.Rules.{barcodeRules, lineRules}
+use Rattle.layout.specs.Pairs.{among}
+use Rattle.layout.specs.Table.{Field, recordBytes, typePlace, segmentPlace, bankField, batchField, numberField, boletoAmount, batchRecords, batchSum, fileRecords}
+use Rattle.layout.specs.Record.{recordRules}
+use Rattle.layout.specs.Lent.{all}
+use Rattle.layout.specs.declared.Direction.{Direction}
+use Rattle.layout.specs.declared.Record.{Record}
+use Rattle.fields.specs.Values.{recordOf, readRecord, noFields}
+use Rattle.fields.specs.declared.Fields.{Fields}
+use Rattle.checker.specs.Line.{lineBytes}
+use Rattle.checker.specs.Machine.{lineOf, stepOf}
+use Rattle.checker.specs.File.{linesOf, run, finish}
+use Rattle.checker.specs.Calls.{Through}
+use Rattle.checker.specs.declared.totals.Totals.{Totals}
+use Rattle.checker.specs.declared.Checker.{Checker}
+use Rattle.checker.specs.declared.Stepped.{Stepped}
+use Rattle.checker.specs.declared.file.Outcome.{Outcome}
+use Rattle.checker.specs.declared.file.Outcome.the-variants as outcome
+use Rattle.writer.specs.Given.{Call, recordsOf}
+use Rattle.writer.specs.Outcome.{Wrote}
+use Rattle.writer.specs.Calls.{AllWhole}
+use Rattle.writer.specs.declared.Writer.{Writer}
+use Rattle.writer.specs.declared.Written.{Written}
+
+-- ---- the table
+
+-- the places that a number may name: some of these, 0 being none; those from 1 to a last one; where a field begins
+pub data Places : Type 0 where
+  at : List ℕ → Places
+  upTo : ℕ → Places
+  fieldStart : Places
+
+-- a row of the table: a number, and its places
+pub record Row : Type 0 where
+  pub number : ℕ
+  pub places : Places
+
+-- so much in one line
+abbrev pub row : ℕ → Places → Row
+row number places = record { number = number; places = places }
+
+-- no place
+abbrev pub nowhere : Places
+nowhere = at (0 ∷ [])
+
+-- the rows in the paper's order. 4 names a byte of a record, and 41 a digit of a string, which has 47 at most; 14 names the currency's place 21
+-- of a barcode field too, and a field of A begins there; 23 names no place in the writer
+unfoldable pub table : List Row
+table =
+    row 1 nowhere
+    ∷ row 2 nowhere
+    ∷ row 3 nowhere
+    ∷ row 4 (upTo recordBytes)
+    ∷ row 5 (at (suc recordBytes ∷ lineBytes ∷ []))
+    ∷ row 6 (at (typePlace ∷ []))
+    ∷ row 7 (at (bankField .from ∷ []))
+    ∷ row 8 fieldStart
+    ∷ row 9 (at (batchField .from ∷ []))
+    ∷ row 10 (at (numberField .from ∷ []))
+    ∷ row 11 (at (segmentPlace ∷ []))
+    ∷ row 12 fieldStart
+    ∷ row 13 fieldStart
+    ∷ row 14 fieldStart
+    ∷ row 15 fieldStart
+    ∷ row 16 (at (22 ∷ [])) ∷ row 17 (at (23 ∷ [])) ∷ row 18 (at (27 ∷ []))
+    ∷ row 19 (at (boletoAmount .from ∷ []))
+    ∷ row 20 (at (typePlace ∷ segmentPlace ∷ []))
+    ∷ row 21 (at (batchRecords .from ∷ fileRecords .from ∷ []))
+    ∷ row 22 (at (batchSum .from ∷ []))
+    ∷ row 23 (at (batchSum .from ∷ 0 ∷ []))
+    ∷ row 25 nowhere
+    ∷ row 40 nowhere ∷ row 41 (upTo lineDigits)
+    ∷ row 42 (at (10 ∷ 21 ∷ 32 ∷ []))
+    ∷ row 43 (at (currencyPlace ∷ [])) ∷ row 44 (at (lineCheck ∷ barcodeCheck ∷ []))
+    ∷ row 50 nowhere
+    ∷ row 51 nowhere
+    ∷ []
+
+-- one of these fields begins at the place
+abbrev pub begins : ℕ → List Field → Bool
+begins p [] = false
+begins p (f ∷ fs) = eqb p (f .from) || begins p fs
+
+-- a place is one of these places; `all` are the fields of all records
+abbrev pub allowed : Places → ℕ → Bool
+allowed (at ps) p = among p ps
+allowed (upTo last) p = leb 1 p && leb p last
+allowed fieldStart p = begins p all
+
+-- the places of a number's row; a number without a row has none
+abbrev pub placesOf : ℕ → List Row → Places
+placesOf n [] = at []
+placesOf n (r ∷ rows) = cond (eqb n (r .number)) (r .places) (placesOf n rows)
+
+-- a refusal whose number has a row, at a place of that row
+abbrev pub InTable : Refusal → Type 0
+InTable r = T (allowed (placesOf (r .number) table) (r .place))
+
+-- ---- how a call ends
+
+-- it accepts; or it refuses with a number of the table, its place and its line, and leaves what it might change as it was
+pub data Ends {A : Type 0} (before after : A) (OnLine : ℕ → Type 0) : Answer → Type 0 where
+  accepted : Ends before after OnLine Accepted
+  refused : {r : Refusal} → InTable r → OnLine (r .line .0) → after ≡ before → Ends before after OnLine (Refused r)
+
+-- the same of an input's end, which leaves no state
+pub data Concludes (OnLine : ℕ → Type 0) : Outcome → Type 0 where
+  accepted : {t : Totals} → Concludes OnLine (outcome.Accepted t)
+  refused : {r : Refusal} → InTable r → OnLine (r .line .0) → Concludes OnLine (outcome.Refused r)
+
+-- ---- every call
+
+-- one record alone and digit strings have no line, which is 0
+abbrev pub OnNoLine : ℕ → Type 0
+OnNoLine n = n ≡ 0
+
+-- what a call changes that only answers
+abbrev pub nothing : Unit {0}
+nothing = tt
+
+-- one of so many lines, the first of which is the one that is next in a state
+abbrev pub OneOfNext : ℕ → Checker → ℕ → Type 0
+OneOfNext lines s n = (lineOf s .0 ≤ n) × (n < lineOf s .0 + lines)
+
+-- a call with many lines ends as one with the line behind those that are accepted
+pub record EndsBehind (s : Checker) (ls : List (List ℕ)) (x : Stepped) : Type 0 where
+  pub earlier : List (List ℕ)
+  pub later : List (List ℕ)
+  pub before : Checker
+  pub are : ls ≡ earlier ++ later
+  pub through : Through s earlier before
+  pub ends : Ends before (x .state) (λ n. n ≡ lineOf before .0) (x .answer)
+
+-- calls on the checker in a state: with a line, with many lines, with the rest of the input
+pub record CheckerCalls (s : Checker) : Type 0 where
+  pub line : (l : List ℕ) → Ends s (stepOf s l .state) (λ n. n ≡ lineOf s .0) (stepOf s l .answer)
+  pub lines : (part : List ℕ) → EndsBehind s (linesOf part) (run s part)
+  pub end : (rest : List ℕ) → Concludes (OneOfNext (suc (length (linesOf rest))) s) (finish s rest)
+
+-- calls on the writer in a state, each lent an output: they might change both
+pub record WriterCalls (w : Writer) : Type 0 where
+  pub call : {c : Call} {out after : List ℕ} {x : Written} → AllWhole (recordsOf c) → Wrote w c out after x
+      → Ends {A = Writer × List ℕ} (w, out) (x .state, after) (OneOfNext (length (recordsOf c)) (w .machine)) (x .answer)
+
+-- calls with one record: a check, a read, which gives no fields where it refuses, and a write, which might change the output
+pub record RecordCalls (r : Record) (d : Direction) : Type 0 where
+  pub check : (rec : List ℕ) → Ends nothing nothing OnNoLine (firstBroken (recordRules r d rec))
+  pub read : (rec : List ℕ) → Ends noFields (readRecord r d rec .fields) OnNoLine (readRecord r d rec .answer)
+  pub write : (v : Fields) {out after : List ℕ} {a : Answer} → Writes (recordRules r d (recordOf r v)) recordBytes (recordOf r v) out a after
+      → Ends out after OnNoLine a
+
+-- calls with digit strings: the check of a barcode and of a digit line, and the conversion of each into the other, which might change the output
+pub record StringCalls : Type 0 where
+  pub check-barcode : (bar : List ℕ) → Ends nothing nothing OnNoLine (firstBroken (barcodeRules bar))
+  pub check-line : (line : List ℕ) → Ends nothing nothing OnNoLine (firstBroken (lineRules line))
+  pub to-line : (bar : List ℕ) {out after : List ℕ} {a : Answer} → Writes (barcodeRules bar) lineDigits (digitLineOf bar) out a after
+      → Ends out after OnNoLine a
+  pub to-barcode : (line : List ℕ) {out after : List ℕ} {a : Answer} → Writes (lineRules line) barcodeDigits (barcodeOf line) out a after
+      → Ends out after OnNoLine a

@@ -1,0 +1,66 @@
+-- The guarded places: another byte there, and an accepted file is refused. Assumes nothing.
+use mathlib.Core.Path.{_≡_}
+use mathlib.Core.List.{List, List·Memᴰ}
+use Prim.Native.Nat.{ℕ, suc, _+_, _*_, _-_, _≤_}
+use lib.ListN.{length, take, drop, set}
+use Rattle.digits.specs.Digits.{digitByte}
+use Rattle.boleto.specs.Guarded.{GuardedInBarcode}
+use Rattle.layout.specs.Table.{Kind, K, O, Zeros, Exact, Field, part, fieldsOf, typeOf, recordBytes, typePlace, segmentPlace, numberField, creditAmount, barcodeField, nominalField, fineField, boletoAmount, batchRecords, batchSum, fileBatches, fileRecords}
+use Rattle.layout.specs.declared.Direction.{Direction}
+use Rattle.layout.specs.declared.Direction.the-variants.{Remittance}
+use Rattle.layout.specs.declared.Record.{Record}
+use Rattle.layout.specs.declared.Record.the-variants.{SegmentA, SegmentJ, BatchTrailer, FileTrailer}
+use Rattle.checker.specs.Line.{lineBytes, recordIn, lineIs}
+use Rattle.checker.specs.Machine.{start, directionOf}
+use Rattle.checker.specs.File.{linesOf}
+use Rattle.checker.specs.Calls.{left}
+use Rattle.checker.specs.declared.order.Due.the-variants.{Line}
+
+-- from place a to place b; in a field
+abbrev pub On : ℕ → ℕ → ℕ → Type 0
+On a b p = (a ≤ p) × (p ≤ b)
+
+abbrev pub In : Field → ℕ → Type 0
+In f p = On (f .from) (f .to) p
+
+-- K, zeros, exact content, or O in a remittance
+pub data Fixed : Direction → Kind → Type 0 where
+  blanks : {d : Direction} → Fixed d K
+  zeros : {d : Direction} → Fixed d Zeros
+  exact : {d : Direction} {bs : List ℕ} → Fixed d (Exact bs)
+  optional : Fixed Remittance O
+
+-- of a file in this direction, in a line that is read as this record: line ends; 1-8; 9-14 of details; the fields above; amount of A;
+-- 100-144 and 153-167 of J; 18-41 of batch trailers; 18-29 of the file trailer; of J 18-61 when place 22 isn't 1, else 21 and 22
+pub data Guarded (d : Direction) (r : Record) (l : List ℕ) (p : ℕ) : Type 0 where
+  line-end : On (suc recordBytes) lineBytes p → Guarded d r l p
+  first-eight : On 1 typePlace p → Guarded d r l p
+  detail : typeOf r ≡ digitByte 3 → On (numberField .from) segmentPlace p → Guarded d r l p
+  fixed : {f : Field} → List·Memᴰ f (fieldsOf r) → Fixed d (f .kind) → In f p → Guarded d r l p
+  credit-amount : r ≡ SegmentA → In creditAmount p → Guarded d r l p
+  boleto-values : r ≡ SegmentJ → On (nominalField .from) (fineField .to) p → Guarded d r l p
+  boleto-amount : r ≡ SegmentJ → In boletoAmount p → Guarded d r l p
+  batch-trailer : r ≡ BatchTrailer → On (batchRecords .from) (batchSum .to) p → Guarded d r l p
+  file-trailer : r ≡ FileTrailer → On (fileBatches .from) (fileRecords .to) p → Guarded d r l p
+  barcode : {q : ℕ} → r ≡ SegmentJ → GuardedInBarcode (part barcodeField (recordIn l)) q → p + 1 ≡ barcodeField .from + q → Guarded d r l p
+
+-- ---- in a file
+
+-- the line with n lines before it
+abbrev pub lineAt : ℕ → List ℕ → List ℕ
+lineAt n file = take lineBytes (drop (n * lineBytes) file)
+
+-- it is read as this record, behind the lines before it
+abbrev pub ReadAt : ℕ → List ℕ → Record → Type 0
+ReadAt n file r = lineIs (left start (take n (linesOf file))) (recordIn (lineAt n file)) ≡ Line r
+
+-- its place p is a guarded one of the file
+pub record GuardedIn (file : List ℕ) (n p : ℕ) : Type 0 where
+  pub which : Record
+  pub read : ReadAt n file which
+  pub inside : n * lineBytes + p ≤ length file
+  pub guarded : Guarded (directionOf (recordIn file)) which (lineAt n file) p
+
+-- another byte there
+abbrev pub changed : List ℕ → ℕ → ℕ → ℕ → List ℕ
+changed file n p b = set file (n * lineBytes + (p - 1)) b

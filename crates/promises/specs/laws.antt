@@ -1,0 +1,9 @@
+-- What is proved of the definitions.
+pub mod Tabled
+pub mod Families
+pub mod Edges
+pub mod Facts
+pub mod Shape
+pub mod Parse
+pub mod Build
+pub mod Accepted

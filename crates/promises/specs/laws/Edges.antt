@@ -1,0 +1,150 @@
+-- Which record a line may be, by phase, direction and kind of batch: each edge of the machine, both ways. Assumes nothing.
+use mathlib.Core.Path.{_≡_, refl, subst, _∙_}
+use mathlib.Core.Bool.{Bool, true, false, not, cond, _&&_, _||_}
+use mathlib.Core.List.{List, [], _∷_, _++_}
+use Prim.Native.Nat.{ℕ}
+use native.Mathlib.Omega.{arith}
+use borrow.Author.Tests.{eqb-true}
+use lib.Dec.{eqb}
+use Rattle.digits.specs.Digits.{place}
+use Rattle.layout.specs.Table.{typeOf, typePlace, segmentPlace}
+use Rattle.layout.specs.laws.Bytes.{and-right}
+use Rattle.layout.specs.declared.Direction.{Direction}
+use Rattle.layout.specs.declared.Direction.the-variants.{Remittance, Return}
+use Rattle.layout.specs.declared.Record.{Record}
+use Rattle.layout.specs.declared.Record.the-variants.{FileHeader, BatchHeader, SegmentA, SegmentB, SegmentJ, SegmentJ52, SegmentZ, BatchTrailer, FileTrailer}
+use Rattle.layout.specs.declared.pairs.Batch.{Batch}
+use Rattle.layout.specs.declared.pairs.Batch.the-variants.{Credit, Boleto, Unknown}
+use Rattle.checker.specs.Order.{first, second, follows, optional, suits, readAs}
+use Rattle.checker.specs.Line.{lineIs}
+use Rattle.checker.specs.declared.order.Due.{Due}
+use Rattle.checker.specs.declared.order.Due.the-variants.{Line}
+use Rattle.checker.specs.declared.order.Phase.{Phase}
+use Rattle.checker.specs.declared.order.Phase.the-variants.{Start, Headed, Opened, Begun, Paid, Noted, Closed, Ended}
+use Rattle.checker.specs.declared.Checker.{Checker}
+
+-- the first record of a payment, and the second
+pub data Begins : Batch → Record → Type 0 where
+  by-A : Begins Credit SegmentA
+  by-J : Begins Boleto SegmentJ
+
+pub data GoesOn : Batch → Record → Type 0 where
+  by-B : GoesOn Credit SegmentB
+  by-J52 : GoesOn Boleto SegmentJ52
+
+pub data Follows (d : Direction) (b : Batch) : Phase → Record → Type 0 where
+  heads : Follows d b Start FileHeader
+  first-batch : Follows d b Headed BatchHeader
+  first-payment : {r : Record} → Begins b r → Follows d b Opened r
+  goes-on : {r : Record} → GoesOn b r → Follows d b Begun r
+  notes : d ≡ Return → Follows d b Paid SegmentZ
+  pays-behind : {r : Record} → Begins b r → Follows d b Paid r
+  pays-noted : {r : Record} → Begins b r → Follows d b Noted r
+  closes-paid : Follows d b Paid BatchTrailer
+  closes-noted : Follows d b Noted BatchTrailer
+  next-batch : Follows d b Closed BatchHeader
+  ends : Follows d b Closed FileTrailer
+
+-- ---- it may follow
+
+-- of some records each
+abbrev Each : (Record → Type 0) → List Record → Type 0
+Each P [] = Unit {0}
+Each P (r ∷ rs) = P r × Each P rs
+
+each-follows : (p : Phase) (d : Direction) (b : Batch) → Each (Follows d b p) (follows p d b)
+each-follows Start d b = (heads, tt)
+each-follows Headed d b = (first-batch, tt)
+each-follows Opened d Credit = (first-payment by-A, tt)
+each-follows Opened d Boleto = (first-payment by-J, tt)
+each-follows Opened d Unknown = tt
+each-follows Begun d Credit = (goes-on by-B, tt)
+each-follows Begun d Boleto = (goes-on by-J52, tt)
+each-follows Begun d Unknown = tt
+each-follows Paid Remittance Credit = (pays-behind by-A, (closes-paid, tt))
+each-follows Paid Remittance Boleto = (pays-behind by-J, (closes-paid, tt))
+each-follows Paid Remittance Unknown = (closes-paid, tt)
+each-follows Paid Return Credit = (notes refl, (pays-behind by-A, (closes-paid, tt)))
+each-follows Paid Return Boleto = (notes refl, (pays-behind by-J, (closes-paid, tt)))
+each-follows Paid Return Unknown = (notes refl, (closes-paid, tt))
+each-follows Noted d Credit = (pays-noted by-A, (closes-noted, tt))
+each-follows Noted d Boleto = (pays-noted by-J, (closes-noted, tt))
+each-follows Noted d Unknown = (closes-noted, tt)
+each-follows Closed d b = (next-batch, (ends, tt))
+each-follows Ended d b = tt
+
+-- a line is read as one of them, with that record's type and, where it may be left out, its letter
+read-each : (P : Record → Type 0) (type segment : ℕ) (rs : List Record) {r : Record} → Each P rs → readAs type segment rs ≡ Line r
+    → P r × (suits type segment r ≡ true)
+read-each P type segment [] each e = absurd (let z : _≡_ {A = ℕ} 0 1 = cc in omega arith)
+read-each P type segment (x ∷ rs) {r} each e = go (suits type segment x) refl (read-each P type segment rs (each .1)) e
+  where
+    go : (b : Bool) → suits type segment x ≡ b → (readAs type segment rs ≡ Line r → P r × (suits type segment r ≡ true))
+        → cond b (Line x) (readAs type segment rs) ≡ Line r → P r × (suits type segment r ≡ true)
+    go true q later e = let same : x ≡ r = cc in subst (λ (y : Record). P y × (suits type segment y ≡ true)) same (each .0, q)
+    go false q later e = later e
+
+module _ (s : Checker) (rec : List ℕ) {r : Record} (e : lineIs s rec ≡ Line r) where
+  found : Follows (s .dir) (s .batch) (s .phase) r × (suits (place typePlace rec) (place segmentPlace rec) r ≡ true)
+  found =
+      read-each (Follows (s .dir) (s .batch) (s .phase)) (place typePlace rec) (place segmentPlace rec) (follows (s .phase) (s .dir) (s .batch))
+      (each-follows (s .phase) (s .dir) (s .batch)) e
+
+  pub follows-by : Follows (s .dir) (s .batch) (s .phase) r
+  follows-by = found .0
+
+  pub type-read : place typePlace rec ≡ typeOf r
+  type-read = eqb-true _ _ (and-right (not (optional r) || eqb (place segmentPlace rec) 90) _ (found .1))
+
+-- ---- and what follows is read so, by its type and its letter
+
+-- where a note may stand, another letter or another type is none
+no-note : (type segment : ℕ) (later : Due) → (segment ≡ 90 → type ≡ typeOf SegmentZ → ⊥) → cond (suits type segment SegmentZ) (Line SegmentZ) later ≡ later
+no-note type segment later n = go (eqb segment 90) (eqb type (typeOf SegmentZ)) refl refl
+  where
+    go : (a b : Bool) → eqb segment 90 ≡ a → eqb type (typeOf SegmentZ) ≡ b → cond (a && b) (Line SegmentZ) later ≡ later
+    go true true p q = absurd (n (eqb-true _ _ p) (eqb-true _ _ q))
+    go true false p q = refl
+    go false b p q = refl
+
+module _ (type segment : ℕ) where
+  opens-first : (b : Batch) {r : Record} → Begins b r → type ≡ typeOf r → readAs type segment (first b) ≡ Line r
+  opens-first Credit by-A e = rw e
+  opens-first Boleto by-J e = rw e
+
+  goes-second : (b : Batch) {r : Record} → GoesOn b r → type ≡ typeOf r → readAs type segment (second b) ≡ Line r
+  goes-second Credit by-B e = rw e
+  goes-second Boleto by-J52 e = rw e
+
+  begins-first : (b : Batch) {r : Record} (rest : List Record) → Begins b r → type ≡ typeOf r → readAs type segment (first b ++ rest) ≡ Line r
+  begins-first Credit rest by-A e = rw e
+  begins-first Boleto rest by-J e = rw e
+
+  closes-last : (b : Batch) → type ≡ typeOf BatchTrailer → readAs type segment (first b ++ BatchTrailer ∷ []) ≡ Line BatchTrailer
+  closes-last Credit e = rw e
+  closes-last Boleto e = rw e
+  closes-last Unknown e = rw e
+
+  -- behind a payment, what is no note is read as if none could stand there
+  no-note-there : (d : Direction) (b : Batch) → (segment ≡ 90 → type ≡ typeOf SegmentZ → ⊥)
+      → readAs type segment (follows Paid d b) ≡ readAs type segment (first b ++ BatchTrailer ∷ [])
+  no-note-there Remittance b n = refl
+  no-note-there Return b n = no-note type segment _ n
+
+  reads-as : (p : Phase) (d : Direction) (b : Batch) {r : Record} → Follows d b p r → type ≡ typeOf r → (r ≡ SegmentZ → segment ≡ 90)
+      → (Begins b r → segment ≡ 90 → ⊥) → readAs type segment (follows p d b) ≡ Line r
+  reads-as Start d b heads e z f = rw e
+  reads-as Headed d b first-batch e z f = rw e
+  reads-as Opened d b (first-payment g) e z f = opens-first b g e
+  reads-as Begun d b (goes-on g) e z f = goes-second b g e
+  reads-as Paid d b (notes q) e z f = rw (q, e, z refl)
+  reads-as Paid d b (pays-behind g) e z f = no-note-there d b (λ letter same. f g letter) ∙ begins-first b _ g e
+  reads-as Paid d b closes-paid e z f = no-note-there d b (λ letter same. omega arith) ∙ closes-last b e
+  reads-as Noted d b (pays-noted g) e z f = begins-first b _ g e
+  reads-as Noted d b closes-noted e z f = closes-last b e
+  reads-as Closed d b next-batch e z f = rw e
+  reads-as Closed d b ends e z f = rw e
+
+pub read-by : (s : Checker) (rec : List ℕ) {r : Record} → Follows (s .dir) (s .batch) (s .phase) r
+    → place typePlace rec ≡ typeOf r → (r ≡ SegmentZ → place segmentPlace rec ≡ 90) → (Begins (s .batch) r → place segmentPlace rec ≡ 90 → ⊥) → lineIs s rec ≡ Line r
+read-by s rec f e z g = reads-as _ _ (s .phase) (s .dir) (s .batch) f e z g

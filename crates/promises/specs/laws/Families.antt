@@ -1,0 +1,153 @@
+-- How every call ends: of the checker in any state that calls lead to, of the writer behind any calls, with one record, and with digit
+-- strings; one statement for each. Assumes nothing.
+use mathlib.Core.Path.{_≡_, refl, sym, ap, _∙_}
+use mathlib.Core.Bool.{true}
+use mathlib.Core.List.{List, [], _∷_}
+use Prim.Native.Nat.{ℕ, suc, _+_}
+use native.Mathlib.Omega.{arith}
+use lib.ListN.{length, length-append}
+use Rattle.answer.specs.Rules.{Rule, firstBroken}
+use Rattle.answer.specs.Output.{Writes, room}
+use Rattle.answer.specs.laws.Order.{broken-refused}
+use Rattle.answer.specs.declared.Refusal.{Refusal}
+use Rattle.answer.specs.declared.Answer.{Answer}
+use Rattle.answer.specs.declared.Answer.the-variants.{Accepted, Refused}
+use Rattle.layout.specs.Record.{recordRules}
+use Rattle.layout.specs.declared.Direction.{Direction}
+use Rattle.layout.specs.declared.Record.{Record}
+use Rattle.fields.specs.Values.{recordOf, readRecord}
+use Rattle.checker.specs.Line.{rulesOfLine}
+use Rattle.checker.specs.Machine.{lineOf, answerTo, stepOf}
+use Rattle.checker.specs.File.{linesOf, unless, steps, finish}
+use Rattle.checker.specs.Calls.{Reached, after-line, here, further, Stopped, at-line, at-end}
+use Rattle.checker.specs.laws.Meaning.{line-accepted}
+use Rattle.checker.specs.laws.Reached.{reached, never-guarded}
+use Rattle.checker.specs.laws.Verdict.{refused-rest, through-line-no}
+use Rattle.checker.specs.declared.Checker.{Checker}
+use Rattle.checker.specs.declared.file.Outcome.{Outcome}
+use Rattle.checker.specs.declared.file.Outcome.the-variants as outcome
+use Rattle.writer.specs.Given.{Call, recordsOf}
+use Rattle.writer.specs.Refusals.{held}
+use Rattle.writer.specs.Outcome.{newWriter, answerOf, Wrote}
+use Rattle.writer.specs.Calls.{AllWhole, Lent, WholeCalls, left}
+use Rattle.writer.specs.laws.Answers.{refused-leaves}
+use Rattle.writer.specs.laws.RefusedLine.{Placed, on-no-line, on-a-line, refused-line}
+use Rattle.writer.specs.laws.Sequences as writer
+use Rattle.writer.specs.declared.Writer.{Writer}
+use Rattle.writer.specs.declared.Written.{Written}
+use Rattle.promises.specs.Calls.{table, InTable, Ends, Concludes, accepted, refused, OnNoLine, nothing, OneOfNext, EndsBehind, CheckerCalls, WriterCalls, RecordCalls, StringCalls}
+use Rattle.promises.specs.laws.Tabled.{Only, join, Alone, tested, record-rules, line-rules, barcode-rules, digit-line-rules, call-rules}
+
+-- ---- by rules of the table that are on no line
+
+-- a call that such rules answer, and that leaves what it might change where they refuse
+by-rules : {A : Type 0} {before after : A} {rules : List Rule} → Only Alone rules → (a : Answer) → a ≡ firstBroken rules
+    → ((r : Refusal) → a ≡ Refused r → after ≡ before) → Ends before after OnNoLine a
+by-rules tabled Accepted e kept = accepted
+by-rules tabled (Refused r) e kept = let t = tabled .broken r (sym e) in refused (t .1) (t .0) (kept r refl)
+
+-- a call that only checks, and one that writes
+checks : {rules : List Rule} → Only Alone rules → Ends nothing nothing OnNoLine (firstBroken rules)
+checks {rules} tabled = by-rules tabled (firstBroken rules) refl (λ r e. refl)
+
+writes : {rules : List Rule} {n : ℕ} {new out after : List ℕ} {a : Answer}
+    → Only Alone rules → Writes rules n new out a after → Ends out after OnNoLine a
+unfolding table
+writes {n} {out} {a} tabled w = by-rules (join tabled (tested (room n out ∷ []) tt)) a (w .answered) (λ r e. w .memory ∙ rw e)
+
+-- ---- one record, and digit strings
+
+-- calls with one record of any kind, in either direction
+pub record-calls : (r : Record) (d : Direction) → RecordCalls r d
+unfolding readRecord
+record-calls r d = record {
+  check = λ rec. checks (record-rules r d rec);
+  read = λ rec. by-rules (record-rules r d rec) (firstBroken (recordRules r d rec)) refl (λ x e. rw e);
+  write = λ v w. writes (record-rules r d (recordOf r v)) w;
+}
+
+-- calls with digit strings
+pub string-calls : StringCalls
+string-calls = record {
+  check-barcode = λ bar. checks (barcode-rules bar);
+  check-line = λ line. checks (digit-line-rules line);
+  to-line = λ bar w. writes (barcode-rules bar) w;
+  to-barcode = λ line w. writes (digit-line-rules line) w;
+}
+
+-- ---- the checker
+
+-- in a state that calls lead to
+module _ {s : Checker} (c : Reached s) where
+  -- a line's rules answer, on the line that is next
+  line-ends : (l : List ℕ) → Ends s (stepOf s l .state) (λ n. n ≡ lineOf s .0) (stepOf s l .answer)
+  line-ends l = rw (never-guarded c l) (go (firstBroken (rulesOfLine s l)) refl)
+    where
+      go : (a : Answer) → firstBroken (rulesOfLine s l) ≡ a → Ends s (answerTo a s l .state) (λ n. n ≡ lineOf s .0) (answerTo a s l .answer)
+      go Accepted e = accepted
+      go (Refused r) e = refused (line-rules s l .broken r e .1) refl refl
+
+  -- a refusal where lines stop: at one of them, or behind the last
+  stopped : (ls : List (List ℕ)) (r : Refusal) → Stopped s ls r → InTable r × OneOfNext (suc (length ls)) s (r .line .0)
+  unfolding table
+  stopped ls r (at-line {t} earlier later l e on b) =
+      let n = through-line-no c on in
+      let k : length ls ≡ length earlier + suc (length later) = ap length e ∙ length-append earlier (l ∷ later) in
+      (line-rules t l .broken _ (broken-refused (rulesOfLine t l) _ (b .broken)) .1, rw (b .numbered) (omega arith))
+  stopped ls r (at-end on lacks e) = rw e (tt, omega (arith, through-line-no c on))
+
+  -- the end of the input
+  end : (rest : List ℕ) → Concludes (OneOfNext (suc (length (linesOf rest))) s) (finish s rest)
+  end rest = go (finish s rest) refl
+    where
+      go : (o : Outcome) → finish s rest ≡ o → Concludes (OneOfNext (suc (length (linesOf rest))) s) o
+      go (outcome.Accepted t) e = accepted
+      go (outcome.Refused r) e = let k = stopped (linesOf rest) r (refused-rest c rest r .0 e) in refused (k .0) (k .1)
+
+-- many lines
+many : {s : Checker} (ls : List (List ℕ)) → Reached s → EndsBehind s ls (steps s ls)
+unfolding steps
+many {s} [] c = record { earlier = []; later = []; before = s; are = refl; through = here; ends = accepted }
+many {s} (l ∷ ls) c = go (stepOf s l .answer) refl (many ls (after-line l c))
+  where
+    go : (a : Answer) → stepOf s l .answer ≡ a → EndsBehind (stepOf s l .state) ls (steps (stepOf s l .state) ls)
+        → EndsBehind s (l ∷ ls) (unless a (steps (stepOf s l .state) ls) (stepOf s l))
+    go Accepted e k = record {
+      earlier = l ∷ k .earlier;
+      later = k .later;
+      before = k .before;
+      are = ap (λ (x : List (List ℕ)). l ∷ x) (k .are);
+      through = further (line-accepted s l (reached c) .0 e) (k .through);
+      ends = k .ends;
+    }
+    go (Refused r) e k = record { earlier = []; later = l ∷ ls; before = s; are = refl; through = here; ends = line-ends c l }
+
+-- calls on the checker, in every state that calls lead to; those with many lines lead to such states too (`run-reached`)
+pub checker-calls : {s : Checker} → Reached s → CheckerCalls s
+checker-calls c = record { line = line-ends c; lines = λ part. many (linesOf part) c; end = end c }
+
+-- ---- the writer
+
+-- in a state that none of its rules guards against
+module _ {w : Writer} (ok : held (w .machine) ≡ true) where
+  -- the line of a refusal
+  placed : {c : Call} {r : Refusal} → Placed w c r → OneOfNext (length (recordsOf c)) (w .machine) (r .line .0)
+  placed (on-no-line q e) = absurd (let z : _≡_ {A = ℕ} 0 1 = cc in omega arith)
+  placed (on-a-line q low high) = (low, high)
+
+  -- a call's rules answer
+  call-ends : {c : Call} {out after : List ℕ} {x : Written} → AllWhole (recordsOf c) → Wrote w c out after x
+      → Ends {A = Writer × List ℕ} (w, out) (x .state, after) (OneOfNext (length (recordsOf c)) (w .machine)) (x .answer)
+  unfolding answerOf
+  call-ends {c} {out} {after} {x} whole k = go (x .answer) refl
+    where
+      go : (a : Answer) → x .answer ≡ a → Ends {A = Writer × List ℕ} (w, out) (x .state, after) (OneOfNext (length (recordsOf c)) (w .machine)) a
+      go Accepted e = accepted
+      go (Refused r) e =
+          let q = sym (k .answered) ∙ e in
+          let same = refused-leaves k r e in
+          refused (call-rules w c out whole .broken r q) (placed (refused-line w c out r q)) (λ i. (same .0 i, same .1 i))
+
+-- calls on the writer, behind every sequence of calls, each lent some memory
+pub writer-calls : (ls : List Lent) → WholeCalls ls → WriterCalls (left newWriter ls)
+writer-calls ls h = record { call = call-ends (writer.never-guarded ls h) }

@@ -1,0 +1,242 @@
+-- Every rule that a call is refused by names a number and a place of the table: the rules of a record, of a line, of digit strings and of the
+-- writer's calls. Where all is known but the bytes, antt computes it. Assumes nothing.
+use mathlib.Core.Path.{_≡_, refl, sym, _∙_, subst}
+use mathlib.Core.Bool.{Bool, true, false, cond, _&&_}
+use mathlib.Core.List.{List, [], _∷_, _++_}
+use Prim.Native.Nat.{ℕ, suc, _+_, _≤_}
+use native.Mathlib.Omega.{arith}
+use borrow.Author.Tests.{eqb-true, eqb-false, le-leb}
+use lib.Dec.{T, eqb, eqb→eq, lit≤}
+use lib.ListN.{length, drop, length-take}
+use Rattle.answer.specs.Rules.{Rule, refusal, rule, firstBroken, andThen, onLine, rulesOnLine}
+use Rattle.answer.specs.laws.Order.{first-append, first-on-line}
+use Rattle.answer.specs.declared.LineNo.{LineNo}
+use Rattle.answer.specs.declared.Refusal.{Refusal}
+use Rattle.answer.specs.declared.Answer.{Answer}
+use Rattle.answer.specs.declared.Answer.the-variants.{Accepted, Refused}
+use Rattle.digits.specs.Digits.{leading, allDigits}
+use Rattle.digits.specs.laws.Strings.{leading-le}
+use Rattle.digits.specs.laws.Tests.{both}
+use Rattle.boleto.specs.Strings.{barcodeDigits, lineDigits}
+use Rattle.boleto.specs.Rules as boleto
+use Rattle.layout.specs.Table.{marks, fieldsOf, recordBytes}
+use Rattle.layout.specs.Record.{rulesOf, byteRule, clean, recordRules}
+use Rattle.layout.specs.Lent.{all, fieldsOfEach}
+use Rattle.layout.specs.laws.Bytes.{clean-le}
+use Rattle.layout.specs.declared.Direction.{Direction}
+use Rattle.layout.specs.declared.Direction.the-variants.{Remittance, Return}
+use Rattle.layout.specs.declared.Record.{Record}
+use Rattle.layout.specs.declared.Record.the-variants.{FileHeader, BatchHeader, SegmentA, SegmentB, SegmentJ, SegmentJ52, SegmentZ, BatchTrailer, FileTrailer}
+use Rattle.layout.specs.declared.pairs.Batch.{Batch}
+use Rattle.checker.specs.Line.{within, boletoRules, houseRules, detailRules, rulesAs, recordIn, lineIs, dueRules, typeRules, lineRules, rulesOfLine}
+use Rattle.checker.specs.Machine.{state, lineOf}
+use Rattle.checker.specs.declared.order.Due.{Due}
+use Rattle.checker.specs.declared.order.Due.the-variants.{Line, Nothing}
+use Rattle.checker.specs.declared.order.Phase.{Phase}
+use Rattle.checker.specs.declared.totals.Totals.{Totals}
+use Rattle.checker.specs.declared.Checker.{Checker}
+use Rattle.writer.specs.Given.{Call, openFile, openBatch, pay, closeBatch, closeFile, recordsOf}
+use Rattle.writer.specs.Filling.{bytesOf}
+use Rattle.writer.specs.Refusals.{turnLimits, lastRules, isOneOf, dueIn, dueNow, givenRules, nextBy, allGiven, callRules}
+use Rattle.writer.specs.Calls.{Whole, AllWhole, no-more, and-then}
+use Rattle.writer.specs.laws.Lines.{bytes-length}
+use Rattle.writer.specs.declared.given.Detail.{Detail}
+use Rattle.writer.specs.declared.Writer.{Writer}
+use Rattle.promises.specs.Calls.{table, upTo, allowed, placesOf, InTable}
+
+-- ---- rules whose refusals are of some kind
+
+-- whatever is refused by these rules is so
+pub record Only (P : Refusal → Type 0) (rs : List Rule) : Type 0 where
+  pub broken : (r : Refusal) → firstBroken rs ≡ Refused r → P r
+
+-- an acceptance is no refusal
+never : {A : Type 0} {r : Refusal} → Accepted ≡ Refused r → A
+never e = absurd (let z : _≡_ {A = ℕ} 0 1 = cc in omega arith)
+
+module _ {P : Refusal → Type 0} where
+  -- no rules
+  none : Only P []
+  unfolding firstBroken
+  none = record { broken = λ r e. never e }
+
+  -- one rule, so where it is broken, and others, so where it is kept
+  first : (x : Rule) {rs : List Rule} → (x .kept ≡ false → P (x .refused)) → (x .kept ≡ true → Only P rs) → Only P (x ∷ rs)
+  unfolding firstBroken
+  first x {rs} here later = record { broken = λ r e. go r (x .kept) refl e }
+    where
+      go : (r : Refusal) (k : Bool) → x .kept ≡ k → cond k (firstBroken rs) (Refused (x .refused)) ≡ Refused r → P r
+      go r true q e = later q .broken r e
+      go r false q e = subst P (cc) (here q)
+
+  -- the same whether it is broken or kept
+  more : {x : Rule} {rs : List Rule} → P (x .refused) → Only P rs → Only P (x ∷ rs)
+  more {x} p others = first x (λ q. p) (λ q. others)
+
+  -- rules behind others
+  pub join : {xs ys : List Rule} → Only P xs → Only P ys → Only P (xs ++ ys)
+  join {xs} {ys} a b = record { broken = λ r e. go r (firstBroken xs) refl (sym (first-append xs ys) ∙ e) }
+    where
+      go : (r : Refusal) (x : Answer) → firstBroken xs ≡ x → andThen x (firstBroken ys) ≡ Refused r → P r
+      go r Accepted q e = b .broken r e
+      go r (Refused y) q e = a .broken r (q ∙ e)
+
+-- ---- of the table, on no line
+
+-- a refusal that is so
+abbrev pub Alone : Refusal → Type 0
+Alone r = (r .line .0 ≡ 0) × InTable r
+
+-- the same as a test, of one refusal and of each rule's
+abbrev alone : Refusal → Bool
+alone r = eqb (r .line .0) 0 && allowed (placesOf (r .number) table) (r .place)
+
+abbrev pub allAlone : List Rule → Bool
+allAlone [] = true
+allAlone (x ∷ xs) = alone (x .refused) && allAlone xs
+
+-- what the test says
+pub tested : (rs : List Rule) → T (allAlone rs) → Only Alone rs
+tested [] t = none
+tested (x ∷ xs) t =
+    let all = both (alone (x .refused)) (allAlone xs) t in
+    let one = both (eqb (x .refused .line .0) 0) (allowed (placesOf (x .refused .number) table) (x .refused .place)) (all .0) in
+    more (eqb→eq _ _ (one .0), one .1) (tested xs (all .1))
+
+-- put on a line, they are of the table still
+on-line : (l : LineNo) (rs : List Rule) → Only Alone rs → Only InTable (rulesOnLine l rs)
+on-line l rs a = record { broken = λ r e. go r (firstBroken rs) refl (sym (first-on-line l rs) ∙ e) }
+  where
+    go : (r : Refusal) (x : Answer) → firstBroken rs ≡ x → onLine l x ≡ Refused r → InTable r
+    go r Accepted q e = never e
+    go r (Refused x) q e = let same : refusal (x .number) l (x .place) ≡ r = cc in subst InTable same (a .broken x q .1)
+
+-- ---- the first fault among bytes
+
+-- behind so many good ones, which are not all, at a place from 1 to the last
+first-fault : (p good last : ℕ) (bs : List ℕ) → p ≡ good + 1 → good ≤ length bs → eqb good (length bs) ≡ false → length bs ≤ last
+    → T (allowed (upTo last) p)
+first-fault p good last bs e some wrong short =
+    let not-all = eqb-false good (length bs) wrong in
+    rw (le-leb 1 p (omega arith), le-leb p last (omega arith)) tt
+
+-- a record's bytes, and a string's digits
+bytes : (rec : List ℕ) {rs : List Rule} → length rec ≤ recordBytes → Only Alone rs → Only Alone (byteRule rec ∷ rs)
+unfolding table
+bytes rec short others =
+    first (byteRule rec) (λ q. (refl, first-fault (suc (clean rec)) (clean rec) recordBytes rec (omega arith) (clean-le rec) q short)) (λ q. others)
+
+digits : (bs : List ℕ) {rs : List Rule} → length bs ≤ lineDigits → Only Alone rs → Only Alone (rule 41 (leading bs + 1) (allDigits bs) ∷ rs)
+unfolding table
+digits bs short others =
+    first (rule 41 (leading bs + 1) (allDigits bs))
+    (λ q. (refl, first-fault (leading bs + 1) (leading bs) lineDigits bs refl (leading-le bs) q short))
+    (λ q. others)
+
+-- ---- a test at every record
+
+-- what holds at each of the nine holds at any
+each : (test : Record → Bool)
+    → T (test FileHeader) × T (test BatchHeader) × T (test SegmentA) × T (test SegmentB) × T (test SegmentJ) × T (test SegmentJ52)
+    × T (test SegmentZ) × T (test BatchTrailer) × T (test FileTrailer) → (r : Record) → T (test r)
+each test t FileHeader = t .0
+each test t BatchHeader = t .1
+each test t SegmentA = t .2
+each test t SegmentB = t .3
+each test t SegmentJ = t .4
+each test t SegmentJ52 = t .5
+each test t SegmentZ = t .6
+each test t BatchTrailer = t .7
+each test t FileTrailer = t .8
+
+-- ---- one record
+
+-- its type, its segment and all its fields
+marked : (r : Record) (d : Direction) (rec : List ℕ) → T (allAlone (rulesOf (marks r) d rec ++ rulesOf (fieldsOf r) d rec))
+unfolding table all fieldsOfEach rulesOf fieldsOf
+marked r Remittance rec = each (λ r. allAlone (rulesOf (marks r) Remittance rec ++ rulesOf (fieldsOf r) Remittance rec)) (tt, tt, tt, tt, tt, tt, tt, tt, tt) r
+marked r Return rec = each (λ r. allAlone (rulesOf (marks r) Return rec ++ rulesOf (fieldsOf r) Return rec)) (tt, tt, tt, tt, tt, tt, tt, tt, tt) r
+
+-- the rules of one record alone
+pub record-rules : (r : Record) (d : Direction) (rec : List ℕ) → Only Alone (recordRules r d rec)
+unfolding recordRules table
+record-rules r d rec =
+    first (rule 1 0 (eqb (length rec) recordBytes))
+    (λ q. (refl, tt))
+    (λ q. bytes rec (omega (arith, eqb-true (length rec) recordBytes q)) (tested _ (marked r d rec)))
+
+-- ---- a line
+
+-- behind the type, by what the line is read as, in every state
+read : (r : Record) (p : Phase) (d : Direction) (b : Batch) (n : ℕ) (x y : Totals) (rec : List ℕ) → T (allAlone (rulesAs r (state p d b n x y) rec))
+unfolding table all fieldsOfEach rulesOf fieldsOf within boletoRules detailRules rulesAs
+read r p Remittance b n x y rec = each (λ r. allAlone (rulesAs r (state p Remittance b n x y) rec)) (tt, tt, tt, tt, tt, tt, tt, tt, tt) r
+read r p Return b n x y rec = each (λ r. allAlone (rulesAs r (state p Return b n x y) rec)) (tt, tt, tt, tt, tt, tt, tt, tt, tt) r
+
+-- whatever it is read as
+due : (d : Due) (s : Checker) (rec : List ℕ) → T (allAlone (dueRules d s rec))
+due (Line r) s rec = read r (s .phase) (s .dir) (s .batch) (s .bank) (s .closed) (s .current) rec
+due Nothing s rec = tt
+
+-- the rules of a line
+pub line-rules : (s : Checker) (line : List ℕ) → Only Alone (rulesOfLine s line)
+unfolding rulesOfLine lineRules typeRules table
+line-rules s line =
+    let rec = recordIn line in
+    more (refl, tt) (more (refl, tt) (bytes rec (rw length-take (omega arith)) (tested _ (due (lineIs s rec) s rec))))
+
+-- ---- digit strings
+
+-- the length, the digits and the currency, then others
+head-rules : (n : ℕ) (bs : List ℕ) (others : List Rule) → n ≤ lineDigits → T (allAlone others) → Only Alone (boleto.headRules n bs ++ others)
+unfolding boleto.headRules table
+head-rules n bs others few t =
+    first (rule 40 0 (eqb (length bs) n))
+    (λ q. (refl, tt))
+    (λ q. digits bs (omega (arith, eqb-true (length bs) n q)) (more (refl, tt) (tested others t)))
+
+-- the rules of a barcode, and of a digit line
+pub barcode-rules : (bar : List ℕ) → Only Alone (boleto.barcodeRules bar)
+unfolding boleto.barcodeRules table
+barcode-rules bar = head-rules barcodeDigits bar _ (lit≤ tt) tt
+
+pub digit-line-rules : (line : List ℕ) → Only Alone (boleto.lineRules line)
+unfolding boleto.lineRules boleto.checkRules table
+digit-line-rules line = head-rules lineDigits line _ (lit≤ tt) tt
+
+-- ---- a call of the writer
+
+-- all fields of a record, and what the house asks
+given : (r : Record) (d : Direction) (rec : List ℕ) → T (allAlone (rulesOf (fieldsOf r) d rec ++ houseRules r rec))
+unfolding table all fieldsOfEach rulesOf fieldsOf boletoRules
+given r Remittance rec = each (λ r. allAlone (rulesOf (fieldsOf r) Remittance rec ++ houseRules r rec)) (tt, tt, tt, tt, tt, tt, tt, tt, tt) r
+given r Return rec = each (λ r. allAlone (rulesOf (fieldsOf r) Return rec ++ houseRules r rec)) (tt, tt, tt, tt, tt, tt, tt, tt, tt) r
+
+-- the rules of a record that is given, and of all of a call's
+given-rules : (due : Bool) (s : Checker) (g : Detail) → Whole (g .fields) → Only Alone (givenRules due (g .which) (s .dir) (bytesOf s g))
+unfolding givenRules table
+given-rules due s g whole = bytes (bytesOf s g) (omega (arith, bytes-length s g whole)) (tested _ (given (g .which) (s .dir) (bytesOf s g)))
+
+all-given : (due : List (List Record)) (s : Checker) {gs : List Detail} → AllWhole gs → Only InTable (allGiven due s gs)
+unfolding allGiven
+all-given due s no-more = none
+all-given due s (and-then {g} whole rest) =
+    join (on-line (lineOf s) _ (given-rules (isOneOf (g .which) (dueNow due)) s g whole)) (all-given (drop 1 due) (nextBy s g) rest)
+
+-- what a call is asked before its records, and behind them
+around : (w : Writer) (c : Call) (out : List ℕ) → T (allAlone (turnLimits c (w .machine))) × T (allAlone (lastRules c w out))
+unfolding table
+around w (openFile v) out = (tt, tt)
+around w (openBatch v) out = (tt, tt)
+around w (pay p) out = (tt, tt)
+around w (closeBatch v) out = (tt, tt)
+around w (closeFile v) out = (tt, tt)
+
+-- the rules of a call
+pub call-rules : (w : Writer) (c : Call) (out : List ℕ) → AllWhole (recordsOf c) → Only InTable (callRules w c out)
+unfolding callRules table
+call-rules w c out whole =
+    let s = w .machine in
+    let t = around w c out in
+    join (more tt (on-line (lineOf s) (turnLimits c s) (tested _ (t .0))))
+    (join (all-given (dueIn c s) s whole) (on-line (lineOf s) (lastRules c w out) (tested _ (t .1))))
