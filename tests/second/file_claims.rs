@@ -3,14 +3,11 @@
 
 use crate::calendar::Calendar;
 use crate::file_reader::check_file;
-use crate::file_rules::{LINE_BYTES, LINE_END};
-use crate::good_files::{any_file, MadeFile, MadeLine};
-use crate::places::{AMOUNT_OF_A, AMOUNT_OF_J, BARCODE, BARCODE_CHECK, DISCOUNT, FINE, NOMINAL};
-use crate::places::{BATCH_RECORDS, BATCH_SUM, FILE_BATCHES, FILE_RECORDS, SEGMENT, TYPE};
+use crate::file_rules::LINE_BYTES;
+use crate::good_files::{any_file, MadeFile};
+use crate::guarded_places::guarded_places;
 use crate::plain_files;
 use crate::random::Random;
-use crate::record_kinds::{Direction, RecordKind};
-use crate::record_table::{self as table, Entry, RECORD_BYTES};
 use crate::replies::Verdict;
 
 const SEED: u64 = 9;
@@ -82,41 +79,6 @@ fn changed_byte(random: &mut Random, byte: u8) -> u8 {
         return random.other_digit(byte);
     }
     byte.wrapping_add(random.between(1, 255) as u8)
-}
-
-fn guarded_places(line: &MadeLine, direction: Direction) -> Vec<usize> {
-    let mut places: Vec<usize> = (1..=TYPE.last).collect();
-    places.extend(RECORD_BYTES + 1..=RECORD_BYTES + LINE_END.len());
-    if line.kind.segment().is_some() {
-        places.extend(TYPE.last + 1..=SEGMENT.last);
-    }
-    for field in table::fields(line.kind) {
-        let reserved =
-            field.entry == Entry::BlankInRemittance && direction == Direction::Remittance;
-        if reserved || field.fixed_content().is_some() {
-            places.extend(field.first..=field.last);
-        }
-    }
-    let parts: &[_] = match line.kind {
-        RecordKind::A => &[AMOUNT_OF_A],
-        RecordKind::J => &[NOMINAL, DISCOUNT, FINE, AMOUNT_OF_J],
-        RecordKind::BatchTrailer => &[BATCH_RECORDS, BATCH_SUM],
-        RecordKind::FileTrailer => &[FILE_BATCHES, FILE_RECORDS],
-        _ => &[],
-    };
-    places.extend(parts.iter().flat_map(|part| part.first..=part.last));
-    if line.kind == RecordKind::J {
-        places.extend(guarded_places_of_barcode(&line.bytes));
-    }
-    places
-}
-
-/// Check 1 stands for three remainders, so it guards fewer places.
-fn guarded_places_of_barcode(line: &[u8]) -> Vec<usize> {
-    if BARCODE_CHECK.of(line) == b"1" {
-        return vec![BARCODE_CHECK.first - 1, BARCODE_CHECK.first];
-    }
-    (BARCODE.first..=BARCODE.last).collect()
 }
 
 fn demand(holds: bool, claim: &str) -> Result<(), String> {

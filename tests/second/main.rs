@@ -1,6 +1,7 @@
 //! The second program: written from document 01 alone, it asks the payment
 //! desk's probe many questions and compares every reply with its own answer.
-//! It also feeds large files to the desk's program, and makes plain files.
+//! It also changes files at their guarded places, feeds large files to the
+//! desk's program, and makes plain files.
 //!
 //! Build: `rustc -O --edition 2021 main.rs -o second`
 
@@ -22,10 +23,16 @@ mod file_damage;
 mod file_reader;
 mod file_rules;
 mod file_state;
+mod file_trials;
 mod good_barcodes;
 mod good_calls;
 mod good_files;
 mod good_records;
+mod guarded;
+mod guarded_digits;
+mod guarded_places;
+mod guarded_samples;
+mod harmless_changes;
 mod large_file_cases;
 mod limit_cases;
 mod limit_files;
@@ -36,6 +43,7 @@ mod line_order;
 mod machine;
 mod malformed_scripts;
 mod numbering;
+mod other_bytes;
 mod paper_claims;
 mod places;
 mod plain_files;
@@ -51,6 +59,7 @@ mod record_table;
 mod record_write_cases;
 mod records;
 mod replies;
+mod sample_sights;
 mod script_cases;
 mod script_demands;
 mod script_field_cases;
@@ -61,8 +70,10 @@ mod script_room_cases;
 mod script_sights;
 mod script_tally;
 mod script_turn_cases;
+mod sown_mistakes;
 mod stand_in;
 mod tally;
+mod trials;
 mod writer;
 mod writer_claims;
 mod writer_faults;
@@ -83,6 +94,7 @@ const USAGE: &str = "usage: second PROGRAM [ARGS..]
        second --fault NAME PROGRAM [ARGS..]
        second --faults PROGRAM [ARGS..]
        second --faults
+       second --guarded PROGRAM [ARGS..]
        second --limits PROGRAM [ARGS..]
        second --stand-in
        second --file NAME
@@ -109,6 +121,7 @@ fn run(arguments: &[String]) -> Result<(), String> {
         Some("--fault") if arguments.len() > 2 => {
             fault_hunt::catch_one(&arguments[2..], &arguments[1])
         }
+        Some("--guarded") if arguments.len() > 1 => guarded::check(&arguments[1..]),
         Some("--limits") if arguments.len() > 1 => limits::check(&arguments[1..]),
         Some("--stand-in") if arguments.len() == 1 => {
             let mut replies = BufWriter::new(io::stdout());

@@ -1,6 +1,8 @@
 //! The places of a line that rules over several fields or lines speak of, each
 //! named once.
 
+use std::ops::RangeInclusive;
+
 use crate::record_kinds::RecordKind;
 use crate::records::number_of;
 
@@ -11,11 +13,15 @@ pub struct Part {
     pub last: usize,
 }
 
-const fn part(first: usize, last: usize) -> Part {
+pub const fn part(first: usize, last: usize) -> Part {
     Part { first, last }
 }
 
 impl Part {
+    pub fn places(self) -> RangeInclusive<usize> {
+        self.first..=self.last
+    }
+
     pub fn width(self) -> usize {
         self.last - self.first + 1
     }

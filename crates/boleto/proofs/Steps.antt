@@ -5,7 +5,7 @@ use Prim.Native.Nat.{ℕ, _≤_}
 use lib.ListN.{length, drop}
 use Rattle.digits.specs.laws.Strings.{spelled-out, front}
 use Rattle.boleto.specs.Strings.{barcodeDigits, lineDigits, lineOf, barcodeOf}
-use Rattle.boleto.specs.Steps.{laid, sealing}
+use Rattle.boleto.specs.inner.Steps.{laid, sealing}
 
 pub barcode-laid : (l out : List ℕ) → length l ≡ lineDigits → barcodeDigits ≤ length out →
     laid (laid (laid (laid (laid out 1 l 1 4) 5 l 33 47) 20 l 5 9) 25 l 11 20) 35 l 22 31 ≡ barcodeOf l ++ drop barcodeDigits out

@@ -1,5 +1,5 @@
 pub mod Strings
 pub mod Rules
-pub mod Steps
 pub mod Guarded
 pub mod laws
+pub mod inner

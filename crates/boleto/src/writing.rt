@@ -5,7 +5,7 @@ ghost use mathlib.Core.List.{_++_};
 ghost use Prim.Native.Nat.{_+_, _-_, _≤_, _<_};
 ghost use lib.ListN.{length, drop};
 ghost use Rattle.boleto.specs.Strings.{barcodeDigits, lineDigits, lineOf, barcodeOf};
-ghost use Rattle.boleto.specs.Steps.{laid, sealing};
+ghost use Rattle.boleto.specs.inner.Steps.{laid, sealing};
 
 // Copies the places from `first` to `last` of src to out, from place `to` on.
 fn put(src: &[u8], first: usize, last: usize, out: &mut [u8], to: usize)

@@ -10,7 +10,7 @@ use Rattle.layout.specs.declared.Record.the-variants.{SegmentZ, BatchTrailer}
 use Rattle.layout.specs.declared.pairs.Batch.{Batch}
 use Rattle.layout.specs.declared.pairs.Batch.the-variants.{Credit, Boleto, Unknown}
 use Rattle.checker.specs.Order.{first, second, follows, readAs}
-use Rattle.checker.specs.Steps.{isReturn, dueOf, endAs}
+use Rattle.checker.specs.inner.Steps.{isReturn, dueOf, endAs}
 use Rattle.checker.specs.declared.order.Due.the-variants.{Line}
 use Rattle.checker.specs.declared.order.Phase.{Phase}
 use Rattle.checker.specs.declared.order.Phase.the-variants.{Start, Headed, Opened, Begun, Paid, Noted, Closed, Ended}

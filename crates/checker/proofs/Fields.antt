@@ -21,7 +21,7 @@ use Rattle.layout.specs.declared.Record.{Record}
 use Rattle.layout.specs.declared.Record.the-variants.{FileHeader, BatchHeader, SegmentA, SegmentB, SegmentJ, SegmentJ52, SegmentZ, BatchTrailer, FileTrailer}
 use Rattle.checker.specs.Totals.{paymentsOf}
 use Rattle.checker.specs.Line.{reads, bank, batchNumber, ordinal, mostPayments, within, behind, between, houseRules, detailRules}
-use Rattle.checker.specs.Steps.{isDetail, segmentFits, detailHead}
+use Rattle.checker.specs.inner.Steps.{isDetail, segmentFits, detailHead}
 use Rattle.checker.specs.declared.Checker.{Checker}
 
 -- the answer of some fields of a record that has its length

@@ -16,7 +16,7 @@ use Rattle.answer.specs.declared.Answer.the-variants.{Accepted, Refused}
 use Rattle.checker.specs.Line.{lineBytes}
 use Rattle.checker.specs.Machine.{inBatch, next, stepped, stepOf}
 use Rattle.checker.specs.File.{linesOf, unless, steps}
-use Rattle.checker.specs.Steps.{isDetail}
+use Rattle.checker.specs.inner.Steps.{isDetail}
 use Rattle.checker.specs.laws.Runs.{no-lines, next-line}
 use Rattle.checker.specs.declared.Checker.{Checker}
 use Rattle.checker.specs.declared.Stepped.{Stepped}

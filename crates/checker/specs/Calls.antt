@@ -1,21 +1,15 @@
 -- Calls one after the other, and what the answer to a whole file says. Assumes nothing.
 use mathlib.Core.Path.{_≡_}
 use mathlib.Core.Bool.{true, false}
-use mathlib.Core.List.{List, [], _∷_, _++_, List·Memᴰ}
-use Prim.Native.Nat.{ℕ, _≤_, _<_}
-use lib.ListN.{length}
+use mathlib.Core.List.{List, [], _∷_, _++_}
+use Prim.Native.Nat.{ℕ}
 use Rattle.answer.specs.Rules.{AllKept, Broken, noLine, refusal}
-use Rattle.answer.specs.declared.Answer.{Answer}
 use Rattle.answer.specs.declared.Refusal.{Refusal}
-use Rattle.layout.specs.declared.Record.{Record}
-use Rattle.checker.specs.Order.{follows, after, ended}
-use Rattle.checker.specs.Line.{lineBytes, recordIn, lineIs, rulesAs, rulesOfLine}
-use Rattle.checker.specs.Machine.{start, lineOf, next, stepOf}
-use Rattle.checker.specs.File.{outcome}
-use Rattle.checker.specs.declared.order.Due.the-variants.{Line}
+use Rattle.checker.specs.Order.{ended}
+use Rattle.checker.specs.Line.{rulesOfLine}
+use Rattle.checker.specs.Machine.{start, lineOf, stepOf}
 use Rattle.checker.specs.declared.totals.Totals.{Totals}
 use Rattle.checker.specs.declared.Checker.{Checker}
-use Rattle.checker.specs.declared.file.Outcome.{Outcome}
 
 -- ---- one call
 
@@ -24,20 +18,6 @@ pub record Breaks (s : Checker) (line : List ℕ) (r : Refusal) : Type 0 where
   pub broken : Broken (rulesOfLine s line) (refusal (r .number) noLine (r .place))
   pub numbered : r .line ≡ lineOf s
 
--- a record is one of these
-abbrev pub Among : Record → List Record → Type 0
-Among r rs = List·Memᴰ r rs
-
--- the edge that an accepted line takes: from a phase, a direction and a kind of batch, by a record that may follow there, to the phase behind it
-pub record Edge (s : Checker) (line : List ℕ) : Type 0 where
-  pub long : length line ≡ lineBytes
-  pub by : Record
-  pub read : lineIs s (recordIn line) ≡ Line by
-  pub may-follow : Among by (follows (s .phase) (s .dir) (s .batch))
-  pub rules-kept : AllKept (rulesAs by s (recordIn line))
-  pub moves : stepOf s line .state ≡ next by s (recordIn line)
-  pub to : stepOf s line .state .phase ≡ after by
-
 -- ---- calls with one line each, whatever the answers: a refused call leaves the state, and the next call is made all the same
 
 -- the states that calls produce
@@ -45,26 +25,11 @@ pub data Reached : Checker → Type 0 where
   at-start : Reached start
   after-line : {s : Checker} (line : List ℕ) → Reached s → Reached (stepOf s line .state)
 
-unfoldable pub answers : Checker → List (List ℕ) → List Answer
-answers s [] = []
-answers s (l ∷ ls) = stepOf s l .answer ∷ answers (stepOf s l .state) ls
-
 unfoldable pub left : Checker → List (List ℕ) → Checker
 left s [] = s
 left s (l ∷ ls) = left (stepOf s l .state) ls
 
--- the first refusal among answers; none: the end's outcome
-unfoldable pub firstOf : List Answer → Outcome → Outcome
-firstOf [] end = end
-firstOf (a ∷ later) end = outcome a (firstOf later end)
-
 -- ---- a whole file
-
--- lines of 242 bytes; a last one may be shorter, and is not empty
-pub data Lines : List (List ℕ) → Type 0 where
-  empty : Lines []
-  short : (l : List ℕ) → 1 ≤ length l → length l < lineBytes → Lines (l ∷ [])
-  full : (l : List ℕ) {ls : List (List ℕ)} → length l ≡ lineBytes → Lines ls → Lines (l ∷ ls)
 
 -- lines accepted one after the other, from a state to a state
 pub data Through : Checker → List (List ℕ) → Checker → Type 0 where

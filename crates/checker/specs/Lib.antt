@@ -4,5 +4,5 @@ pub mod Line
 pub mod Machine
 pub mod File
 pub mod Calls
-pub mod Steps
 pub mod laws
+pub mod inner

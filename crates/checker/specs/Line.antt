@@ -12,7 +12,7 @@ use Rattle.calendar.specs.Calendar.{numberFits, dateOf}
 use Rattle.calendar.specs.Due.{factorFits}
 use Rattle.boleto.specs.Strings.{factorDigits, centsDigits}
 use Rattle.boleto.specs.Rules.{generalFits}
-use Rattle.layout.specs.Table.{Field, part, bankField, batchField, typePlace, numberField, segmentPlace, segmentFields, fieldsOf, recordBytes, barcodeField, dueField, nominalField, discountField, fineField, boletoAmount, batchRecords, batchSum, fileBatches, fileRecords}
+use Rattle.layout.specs.Table.{Field, part, isOneOf, bankField, batchField, typePlace, numberField, segmentPlace, segmentFields, fieldsOf, recordBytes, barcodeField, dueField, nominalField, discountField, fineField, boletoAmount, batchRecords, batchSum, fileBatches, fileRecords}
 use Rattle.layout.specs.Record.{rulesOf, byteRule}
 use Rattle.layout.specs.declared.Record.{Record}
 use Rattle.layout.specs.declared.Record.the-variants.{FileHeader, BatchHeader, SegmentA, SegmentB, SegmentJ, SegmentJ52, SegmentZ, BatchTrailer, FileTrailer}
@@ -91,15 +91,7 @@ boletoRules rec =
     ∷ []
 
 abbrev pub houseRules : Record → List ℕ → List Rule
-houseRules FileHeader rec = []
-houseRules BatchHeader rec = []
-houseRules SegmentA rec = []
-houseRules SegmentB rec = []
-houseRules SegmentJ rec = boletoRules rec
-houseRules SegmentJ52 rec = []
-houseRules SegmentZ rec = []
-houseRules BatchTrailer rec = []
-houseRules FileTrailer rec = []
+houseRules r rec = cond (isOneOf r (SegmentJ ∷ [])) (boletoRules rec) []
 
 -- of a record of the right length
 abbrev pub houseAlone : Record → List ℕ → List Rule

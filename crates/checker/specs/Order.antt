@@ -4,7 +4,7 @@ use mathlib.Core.List.{List, [], _∷_, _++_}
 use Prim.Native.Nat.{ℕ}
 use lib.Dec.{eqb}
 use lib.ListN.{take, drop}
-use Rattle.layout.specs.Table.{typeOf}
+use Rattle.layout.specs.Table.{isOneOf, typeOf}
 use Rattle.layout.specs.declared.Direction.{Direction}
 use Rattle.layout.specs.declared.Direction.the-variants.{Remittance, Return}
 use Rattle.layout.specs.declared.Record.{Record}
@@ -64,15 +64,7 @@ ended Ended = true
 
 -- Z may be left out: it alone is known by its letter, 90; every other detail by its place in the payment
 abbrev pub optional : Record → Bool
-optional FileHeader = false
-optional BatchHeader = false
-optional SegmentA = false
-optional SegmentB = false
-optional SegmentJ = false
-optional SegmentJ52 = false
-optional SegmentZ = true
-optional BatchTrailer = false
-optional FileTrailer = false
+optional r = isOneOf r (SegmentZ ∷ [])
 
 abbrev pub suits : ℕ → ℕ → Record → Bool
 suits type segment r = (not (optional r) || eqb segment 90) && eqb type (typeOf r)

@@ -28,7 +28,7 @@ ghost use mathlib.Core.Bool.{cond};
 ghost use Rattle.answer.specs.Rules.{noLine, firstBroken};
 ghost use Rattle.checker.specs.Line.{houseAlone};
 ghost use Rattle.checker.specs.Machine.{lineOf, sound, stepOf, start};
-ghost use Rattle.checker.specs.Steps.{Bounded};
+ghost use Rattle.checker.specs.inner.Steps.{Bounded};
 
 pub const LINE_BYTES: usize = 242;
 

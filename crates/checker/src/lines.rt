@@ -28,7 +28,7 @@ ghost use Rattle.calendar.specs.Calendar.{numberFits};
 ghost use Rattle.layout.specs.Table.{recordBytes, segmentPlace};
 ghost use Rattle.layout.specs.Record.{rulesOf};
 ghost use Rattle.checker.specs.Line.{bank, batchNumber, behind, houseRules, detailRules, rulesAs, lineBytes, lineIs, typeRules, lineRules, rulesOfLine};
-ghost use Rattle.checker.specs.Steps.{segmentFits, isDetail, Bounded};
+ghost use Rattle.checker.specs.inner.Steps.{segmentFits, isDetail, Bounded};
 
 // The index of the first field behind the type, and behind the segment.
 const BEHIND_TYPE: usize = 3;

@@ -15,7 +15,7 @@ ghost use Rattle.layout.specs.Table.{recordBytes};
 ghost use Rattle.checker.specs.Order.{after};
 ghost use Rattle.checker.specs.Line.{lineIs};
 ghost use Rattle.checker.specs.Machine.{state, directionOf, inBatch, next, moved, withRecord};
-ghost use Rattle.checker.specs.Steps.{Bounded};
+ghost use Rattle.checker.specs.inner.Steps.{Bounded};
 
 fn direction_of(rec: &[u8]) -> Direction
     requires { ⌜ length (now rec) ≡ recordBytes ⌝ }

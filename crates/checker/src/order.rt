@@ -5,7 +5,7 @@ use layout::Record;
 ghost use mathlib.Core.Path.{_≡_};
 ghost use mathlib.Core.Bool.{cond};
 ghost use Rattle.checker.specs.Order.{first, second, follows, after, ended, readAs};
-ghost use Rattle.checker.specs.Steps.{dueOf, endAs, isReturn};
+ghost use Rattle.checker.specs.inner.Steps.{dueOf, endAs, isReturn};
 ghost use Rattle.checker.specs.declared.order.Due.the-variants.{Line, Nothing};
 
 // By what was accepted last: nothing, the file header, a batch header, the first record of a payment,

@@ -9,7 +9,7 @@ ghost use lib.ListN.{length, take, drop};
 ghost use Rattle.digits.specs.Numbers.{value};
 ghost use Rattle.layout.specs.Table.{recordBytes};
 ghost use Rattle.checker.specs.Totals.{totals, add, batchesOf, paymentsOf, centsOf, counts, amountDigits};
-ghost use Rattle.checker.specs.Steps.{FitSum};
+ghost use Rattle.checker.specs.inner.Steps.{FitSum};
 
 pub struct Totals {
     pub batches: u64,

@@ -3,7 +3,7 @@ use libc::STDIN_FILENO;
 ghost use mathlib.Core.Path.{_≡_};
 ghost use Prim.Native.Nat.{_+_, _≤_};
 ghost use lib.ListN.{length};
-ghost use Rattle.cnab240.specs.Sizes.{Within};
+ghost use Rattle.cnab240.specs.inner.Sizes.{Within};
 
 // 270 lines.
 pub(crate) const BUFFER_BYTES: usize = 65340;

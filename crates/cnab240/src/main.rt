@@ -10,7 +10,7 @@ use input::BUFFER_BYTES;
 use input::Input;
 ghost use mathlib.Core.Path.{_≡_};
 ghost use lib.ListN.{length};
-ghost use Rattle.cnab240.specs.Sizes.{bufferBytes};
+ghost use Rattle.cnab240.specs.inner.Sizes.{bufferBytes};
 
 fn buffer() -> [u8; BUFFER_BYTES]
     ensures { λ r. ⌜ length r ≡ bufferBytes ⌝ }

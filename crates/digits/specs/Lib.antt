@@ -1,5 +1,5 @@
 pub mod Digits
 pub mod Numbers
 pub mod Checks
-pub mod Steps
 pub mod laws
+pub mod inner

@@ -5,7 +5,7 @@ ghost use mathlib.Core.List.{_++_};
 ghost use Prim.Native.Nat.{_+_, _%_, _^_, _<_, _≤_};
 ghost use lib.ListN.{length};
 ghost use Rattle.digits.specs.Digits.{digitByte, weighed};
-ghost use Rattle.digits.specs.Steps.{behind, few};
+ghost use Rattle.digits.specs.inner.Steps.{behind, few};
 ghost use Rattle.digits.specs.Checks.{base, counts, lift, checkDigit, sealed};
 
 // Ten: weights 2, 1, 2 .. and the digits of each product added. Eleven: weights 2 to 9, repeating.

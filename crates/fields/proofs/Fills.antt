@@ -7,7 +7,7 @@ use lib.Dec.{T}
 use Rattle.layout.specs.Table.{Kind}
 use Rattle.layout.specs.Kinds.{asNumber, asBytes, asFixed, means}
 use Rattle.layout.specs.Lent.{kindOf, fillOf}
-use Rattle.layout.specs.Steps.{mayBe}
+use Rattle.layout.specs.inner.Steps.{mayBe}
 use Rattle.layout.specs.laws.Texts.{TextOf, Filled, a-number, its-text, a-string, filled}
 use Rattle.layout.specs.declared.kinds.Fill.{Fill}
 use Rattle.layout.specs.declared.kinds.Fill.the-variants.{Number, Text, Fixed}

@@ -111,22 +111,3 @@ textWith r j bs text = cond (ltb j (length (fieldsOf r))) (overField (getD (fiel
 
 abbrev pub withText : Record → ℕ → List ℕ → Fields → Fields
 withText r j bs v = record { numbers = v .numbers; text = textWith r j bs (v .text) }
-
--- ---- what a caller gives for a field, or reads of it; fixed content is neither
-
-pub data Given : Type 0 where
-  number : ℕ → Given
-  bytes : List ℕ → Given
-  fixed : Given
-
-abbrev pub givenFor : Held → ℕ → List ℕ → Given
-givenFor asNumber n bs = number n
-givenFor asBytes n bs = bytes bs
-givenFor (asFixed content) n bs = fixed
-
-unfoldable pub givenEach : List Field → List ℕ → List ℕ → List Given
-givenEach [] ns text = []
-givenEach (f ∷ fs) ns text = givenFor (heldAs f) (getD ns 0 0) (part f text) ∷ givenEach fs (drop 1 ns) text
-
-unfoldable pub given : Record → Fields → List Given
-given r v = givenEach (fieldsOf r) (v .numbers) (v .text)

@@ -4,3 +4,4 @@ pub mod Kept
 pub mod RoundTrip
 pub mod TooWide
 pub mod Calls
+pub mod Wide

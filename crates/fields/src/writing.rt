@@ -17,7 +17,7 @@ ghost use Rattle.layout.specs.Table.{recordBytes};
 ghost use Rattle.layout.specs.Kinds.{means};
 ghost use Rattle.layout.specs.Record.{recordRules};
 ghost use Rattle.layout.specs.Lent.{kindOf, fixedText, Columns};
-ghost use Rattle.layout.specs.Steps.{mayBe};
+ghost use Rattle.layout.specs.inner.Steps.{mayBe};
 ghost use Rattle.fields.specs.Values.{rendered, recordOf, laid};
 
 // One field, over its part of the output: the caller's number or text, or the fixed byte string.

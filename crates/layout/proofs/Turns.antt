@@ -20,11 +20,11 @@ use Rattle.layout.specs.Table.{none, typeField, segmentFields, marks}
 use Rattle.layout.specs.Kinds.{aPart, means, same}
 use Rattle.layout.specs.Record.{rulesOf}
 use Rattle.layout.specs.Lent.{all, kindOf, whole?, fieldCount}
-use Rattle.layout.specs.Masks.{Right, Known}
+use Rattle.layout.specs.inner.Masks.{Right, Known}
 use Rattle.layout.specs.laws.Bytes.{same-turn, same-end}
 use Rattle.layout.specs.laws.Columns.{Stands, all-length, no-segment}
 use Rattle.layout.specs.laws.Masks.{enough}
-use Rattle.layout.specs.Steps.{hasSegment}
+use Rattle.layout.specs.inner.Steps.{hasSegment}
 use Rattle.layout.specs.declared.Direction.{Direction}
 use Rattle.layout.specs.declared.Record.{Record}
 

@@ -1,10 +1,8 @@
 -- The layout table: the fields of each record, left to right, with their first and last places. Assumes nothing.
-use mathlib.Core.Path.{_≡_}
-use mathlib.Core.Bool.{Bool, _&&_}
+use mathlib.Core.Bool.{Bool, false, _&&_, _||_}
 use mathlib.Core.List.{List, [], _∷_, _++_}
-use Prim.Native.Nat.{ℕ, suc, _≤_, _<_}
+use Prim.Native.Nat.{ℕ, suc}
 use lib.Dec.{leb, eqb}
-use lib.ListN.{length, getD}
 use Rattle.digits.specs.Digits.{digitByte, places}
 use Rattle.layout.specs.declared.Record.{Record}
 use Rattle.layout.specs.declared.Record.the-variants.{FileHeader, BatchHeader, SegmentA, SegmentB, SegmentJ, SegmentJ52, SegmentZ, BatchTrailer, FileTrailer}
@@ -42,6 +40,22 @@ abbrev pub part : Field → List ℕ → List ℕ
 part f rec = places (f .from) (f .to) rec
 
 -- ---- what a record is known by
+
+-- records, told apart
+abbrev pub code : Record → ℕ
+code FileHeader = 0
+code BatchHeader = 1
+code SegmentA = 2
+code SegmentB = 3
+code SegmentJ = 4
+code SegmentJ52 = 5
+code SegmentZ = 6
+code BatchTrailer = 7
+code FileTrailer = 8
+
+abbrev pub isOneOf : Record → List Record → Bool
+isOneOf r [] = false
+isOneOf r (q ∷ qs) = eqb (code r) (code q) || isOneOf r qs
 
 abbrev pub typeOf : Record → ℕ
 typeOf FileHeader = digitByte 0
@@ -214,10 +228,3 @@ tiles p (f ∷ fs) = eqb (f .from) p && (leb p (f .to) && tiles (suc (f .to)) fs
 -- stands for a field past the table's end
 abbrev pub none : Field
 none = field 0 0 N
-
--- one field of the list holds the place q, and no other does
-pub record HeldOnce (fs : List Field) (q : ℕ) : Type 0 where
-  pub index : ℕ
-  pub below : index < length fs
-  pub holds : ((getD fs index none) .from ≤ q) × (q ≤ (getD fs index none) .to)
-  pub only : (j : ℕ) → j < length fs → (getD fs j none) .from ≤ q → q ≤ (getD fs j none) .to → j ≡ index

@@ -15,7 +15,7 @@ ghost use Rattle.answer.specs.Rules.{firstBroken};
 ghost use Rattle.layout.specs.Table.{recordBytes};
 ghost use Rattle.layout.specs.Kinds.{aPart, oneOf, pairRule, barcodeRules};
 ghost use Rattle.layout.specs.Lent.{firstMark, lastMark, kindOf};
-ghost use Rattle.layout.specs.Steps.{mayBe, Looked, markLook, textLook};
+ghost use Rattle.layout.specs.inner.Steps.{mayBe, Looked, markLook, textLook};
 ghost use Rattle.layout.specs.declared.Direction.the-variants.{Remittance};
 ghost use Rattle.layout.specs.declared.looks.Look.the-variants.{Text};
 

@@ -6,7 +6,7 @@ use super::Record;
 ghost use mathlib.Core.Path.{_≡_};
 ghost use lib.ListN.{length};
 ghost use Rattle.layout.specs.Table.{recordBytes, fieldsOf};
-ghost use Rattle.layout.specs.Masks.{within, lowsOf, highsOf};
+ghost use Rattle.layout.specs.inner.Masks.{within, lowsOf, highsOf};
 
 const FILE_HEADER_LOW: [u8; RECORD_BYTES] =
     *b"00000000         000000000000000                    00000 000000000000                                                                        1              00000000000000                                                                     ";

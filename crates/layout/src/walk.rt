@@ -19,8 +19,8 @@ ghost use Rattle.answer.specs.Rules.{firstBroken};
 ghost use Rattle.layout.specs.Table.{recordBytes, marks, fieldsOf};
 ghost use Rattle.layout.specs.Record.{rulesOf};
 ghost use Rattle.layout.specs.Lent.{fieldCount, all, fixedText, Columns};
-ghost use Rattle.layout.specs.Masks.{Known};
-ghost use Rattle.layout.specs.Steps.{hasSegment};
+ghost use Rattle.layout.specs.inner.Masks.{Known};
+ghost use Rattle.layout.specs.inner.Steps.{hasSegment};
 ghost use Rattle.layout.specs.laws.Columns.{Stands};
 
 // Where type and segment stand among a record's fields.

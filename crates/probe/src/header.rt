@@ -7,7 +7,7 @@ use layout::Direction;
 use layout::Record;
 ghost use Prim.Native.Nat.{_+_, _≤_};
 ghost use lib.ListN.{length};
-ghost use Rattle.probe.specs.Sizes.{announcedDigits, mostAnnounced, mostBytes, Announced};
+ghost use Rattle.probe.specs.inner.Sizes.{announcedDigits, mostAnnounced, mostBytes, Announced};
 
 // Where room and length begin, how many digits they have, and where LF stands.
 const ROOM: usize = 3;

@@ -26,7 +26,7 @@ use header::Op;
 use libc::STDIN_FILENO;
 ghost use mathlib.Core.Path.{_≡_};
 ghost use lib.ListN.{length};
-ghost use Rattle.probe.specs.Sizes.{mostAnnounced, mostBytes};
+ghost use Rattle.probe.specs.inner.Sizes.{mostAnnounced, mostBytes};
 
 // The longest payload that a header can announce, and the most that a payload and output memory may
 // have.

@@ -9,7 +9,7 @@ use layout::Record;
 ghost use mathlib.Core.Path.{_≡_};
 ghost use Prim.Native.Nat.{_≤_};
 ghost use lib.ListN.{length};
-ghost use Rattle.probe.specs.Sizes.{numberDigits, mostNumbers};
+ghost use Rattle.probe.specs.inner.Sizes.{numberDigits, mostNumbers};
 
 // As many numbers as fields may have.
 pub(crate) const MOST_NUMBERS: usize = 32;

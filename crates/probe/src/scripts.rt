@@ -19,7 +19,7 @@ use writer::Writer;
 use writer::Written;
 ghost use Prim.Native.Nat.{_+_, _≤_, _<_};
 ghost use lib.ListN.{length};
-ghost use Rattle.probe.specs.Sizes.{headBytes, mostRecords, mostStep};
+ghost use Rattle.probe.specs.inner.Sizes.{headBytes, mostRecords, mostStep};
 
 // A letter and, of a call, the count of its records. No step is shorter.
 const HEAD: usize = 2;

@@ -12,13 +12,14 @@ use Rattle.answer.specs.declared.Refusal.{Refusal}
 use Rattle.answer.specs.declared.Answer.{Answer}
 use Rattle.answer.specs.declared.Answer.the-variants.{Accepted, Refused}
 use Rattle.answer.specs.laws.Order.{accepted-kept, kept-behind, first-append, first-on-line, one-then}
+use Rattle.layout.specs.Table.{isOneOf}
 use Rattle.layout.specs.declared.Record.{Record}
 use Rattle.checker.specs.Machine.{lineOf}
 use Rattle.checker.specs.declared.Checker.{Checker}
 use Rattle.writer.specs.Given.{Call, pay, recordsOf}
-use Rattle.writer.specs.Refusals.{turnRule, held, turnRules, isOneOf, dueIn, dueNow, givenOnLine, allGiven, lastRules, callRules}
+use Rattle.writer.specs.Refusals.{turnRule, held, turnRules, dueIn, dueNow, givenOnLine, allGiven, lastRules, callRules}
 use Rattle.writer.specs.Outcome.{writer, behindAll, cursorBehind, outputAfter, answerOf, Wrote}
-use Rattle.writer.specs.Steps.{turnOf, MayPay, WroteIn}
+use Rattle.writer.specs.inner.Steps.{turnOf, MayPay, WroteIn}
 use Rattle.writer.specs.declared.given.Detail.{Detail}
 use Rattle.writer.specs.declared.given.Payment.{Payment}
 use Rattle.writer.specs.declared.Writer.{Writer}

@@ -8,7 +8,7 @@ use borrow.Author.Tests.{le-leb, lt-leb, lt-ltb, le-ltb}
 use lib.Dec.{leb, ltb}
 use Rattle.layout.specs.laws.Bytes.{and-left}
 use Rattle.checker.specs.Machine.{sound}
-use Rattle.checker.specs.Steps.{Bounded}
+use Rattle.checker.specs.inner.Steps.{Bounded}
 use Rattle.checker.specs.laws.Bounds.{bounded}
 use Rattle.checker.specs.declared.Checker.{Checker}
 use Rattle.writer.specs.Refusals.{held}

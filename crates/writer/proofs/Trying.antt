@@ -11,6 +11,7 @@ use Rattle.answer.specs.declared.Refusal.{Refusal}
 use Rattle.answer.specs.declared.Answer.{Answer}
 use Rattle.answer.specs.declared.Answer.the-variants.{Accepted, Refused}
 use Rattle.answer.specs.laws.Order.{first-on-line, gone-on, stopped, accepted-kept}
+use Rattle.layout.specs.Table.{isOneOf}
 use Rattle.layout.specs.declared.Direction.{Direction}
 use Rattle.layout.specs.declared.Record.{Record}
 use Rattle.layout.specs.declared.pairs.Batch.{Batch}
@@ -21,10 +22,10 @@ use Rattle.checker.specs.Machine.{lineOf, sound, withRecord}
 use Rattle.checker.specs.declared.Checker.{Checker}
 use Rattle.writer.specs.Given.{thirdIn}
 use Rattle.writer.specs.Filling.{filled, bytesOf}
-use Rattle.writer.specs.Refusals.{notes, isOneOf, givenRules, givenOnLine, nextBy, allGiven}
+use Rattle.writer.specs.Refusals.{notes, givenRules, givenOnLine, nextBy, allGiven}
 use Rattle.writer.specs.Outcome.{linesFor, behindAll}
 use Rattle.writer.specs.laws.Accepted.{off-line}
-use Rattle.writer.specs.Steps.{Tries, lineWith, TriesThird, TriesLater, TriesPayment}
+use Rattle.writer.specs.inner.Steps.{Tries, lineWith, TriesThird, TriesLater, TriesPayment}
 use Rattle.writer.specs.declared.given.Detail.{Detail}
 use Rattle.writer.specs.declared.given.Payment.{Payment}
 use Rattle.writer.specs.declared.records.Tried.{Tried}

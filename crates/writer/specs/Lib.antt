@@ -3,6 +3,6 @@ pub mod Filling
 pub mod Refusals
 pub mod Outcome
 pub mod Calls
-pub mod Steps
 pub mod Examples
 pub mod laws
+pub mod inner

@@ -1,18 +1,18 @@
 -- The refusals of a call, in the paper's order. Assumes nothing.
-use mathlib.Core.Bool.{Bool, true, false, _&&_, _||_}
+use mathlib.Core.Bool.{Bool, true, false, _&&_}
 use mathlib.Core.List.{List, [], _∷_, _++_}
 use Prim.Native.Nat.{ℕ, _+_, _*_}
-use lib.Dec.{leb, ltb, eqb}
+use lib.Dec.{leb, ltb}
 use lib.ListN.{length, drop}
 use Rattle.answer.specs.Limits.{fileCents, fileRecords}
 use Rattle.answer.specs.Rules.{Rule, rule, rulesOnLine}
 use Rattle.answer.specs.Output.{room}
-use Rattle.layout.specs.Table.{typePlace, segmentPlace, fieldsOf}
+use Rattle.layout.specs.Table.{typePlace, segmentPlace, fieldsOf, isOneOf}
 use Rattle.layout.specs.Record.{rulesOf, byteRule}
 use Rattle.layout.specs.declared.Direction.{Direction}
 use Rattle.layout.specs.declared.Direction.the-variants.{Remittance, Return}
 use Rattle.layout.specs.declared.Record.{Record}
-use Rattle.layout.specs.declared.Record.the-variants.{FileHeader, BatchHeader, SegmentA, SegmentB, SegmentJ, SegmentJ52, SegmentZ, BatchTrailer, FileTrailer}
+use Rattle.layout.specs.declared.Record.the-variants.{FileHeader, BatchHeader, SegmentZ, BatchTrailer, FileTrailer}
 use Rattle.checker.specs.Order.{first, second}
 use Rattle.checker.specs.Line.{ordinal, mostBatches, mostPayments, houseRules, lineBytes}
 use Rattle.checker.specs.Machine.{lineOf, next, sound}
@@ -89,22 +89,6 @@ turnLimits (closeBatch v) s = turnRule (turns (s .phase) .trailer) ∷ []
 turnLimits (closeFile v) s = turnRule (turns (s .phase) .end) ∷ []
 
 -- ---- record by record the reader's 4, 11, fields and 16 to 19
-
--- kinds of record, told apart
-abbrev pub code : Record → ℕ
-code FileHeader = 0
-code BatchHeader = 1
-code SegmentA = 2
-code SegmentB = 3
-code SegmentJ = 4
-code SegmentJ52 = 5
-code SegmentZ = 6
-code BatchTrailer = 7
-code FileTrailer = 8
-
-abbrev pub isOneOf : Record → List Record → Bool
-isOneOf r [] = false
-isOneOf r (q ∷ qs) = eqb (code r) (code q) || isOneOf r qs
 
 -- the third record of a payment, in a return
 abbrev pub notes : Direction → List Record

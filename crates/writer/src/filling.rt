@@ -6,7 +6,7 @@ use fields::Fields;
 use layout::Record;
 use layout::names;
 ghost use mathlib.Core.Path.{_≡_};
-ghost use Rattle.checker.specs.Steps.{Bounded};
+ghost use Rattle.checker.specs.inner.Steps.{Bounded};
 ghost use Rattle.writer.specs.Filling.{filledInBatch, filledDetail, filledBatchTrailer, filledFileTrailer, filled};
 
 fn fill_in_batch(m: Checker, v: Fields) -> Fields

@@ -36,7 +36,7 @@ ghost use Rattle.answer.specs.declared.Answer.the-variants.{Accepted};
 ghost use Rattle.writer.specs.Given.{given, recordsIn, openFile, openBatch, pay, closeBatch, closeFile};
 ghost use Rattle.writer.specs.Refusals.{size, held};
 ghost use Rattle.writer.specs.Outcome.{newWriter, Wrote};
-ghost use Rattle.writer.specs.Steps.{WroteIn, oneRules, paymentRules, MayPay};
+ghost use Rattle.writer.specs.inner.Steps.{WroteIn, oneRules, paymentRules, MayPay};
 
 // The machine's state behind what was written, and the place that was reached in the output.
 pub struct Writer {

@@ -20,11 +20,12 @@ ghost use Prim.Native.Nat.{_≤_};
 ghost use lib.Dec.{eqb};
 ghost use lib.ListN.{length, take, drop};
 ghost use Rattle.answer.specs.Rules.{firstBroken};
+ghost use Rattle.layout.specs.Table.{code, isOneOf};
 ghost use Rattle.checker.specs.Order.{first, second};
 ghost use Rattle.checker.specs.Machine.{sound};
 ghost use Rattle.writer.specs.Given.{amountOf, recordsIn};
-ghost use Rattle.writer.specs.Refusals.{code, isOneOf, notes, nextBy, leastDetails, mostDetails, sumRule, size};
-ghost use Rattle.writer.specs.Steps.{linesThird, linesWith, TriesThird, TriesLater, TriesPayment, MayPay};
+ghost use Rattle.writer.specs.Refusals.{notes, nextBy, leastDetails, mostDetails, sumRule, size};
+ghost use Rattle.writer.specs.inner.Steps.{linesThird, linesWith, TriesThird, TriesLater, TriesPayment, MayPay};
 
 // The answer, and where it accepts, the state behind all records and their fields as they are written.
 pub(crate) struct TriedPayment {

@@ -21,7 +21,7 @@ ghost use Rattle.checker.specs.Line.{lineBytes};
 ghost use Rattle.checker.specs.Machine.{sound};
 ghost use Rattle.writer.specs.Given.{given};
 ghost use Rattle.writer.specs.Refusals.{givenRules};
-ghost use Rattle.writer.specs.Steps.{Tries, lineWith};
+ghost use Rattle.writer.specs.inner.Steps.{Tries, lineWith};
 
 pub(crate) struct Tried {
     pub(crate) answer: Answer,

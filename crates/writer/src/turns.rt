@@ -11,7 +11,7 @@ ghost use mathlib.Core.Path.{_≡_};
 ghost use Prim.Native.Nat.{_≤_};
 ghost use Rattle.answer.specs.Rules.{firstBroken};
 ghost use Rattle.writer.specs.Refusals.{turns, recordsSoFar, fitsFile, batchLimits, paymentLimits, mostDetails, held};
-ghost use Rattle.writer.specs.Steps.{turnOf};
+ghost use Rattle.writer.specs.inner.Steps.{turnOf};
 
 // What opening a batch asks room for: its header, a payment of two records, and two trailers.
 const BATCH_RECORDS: RecordCount = RecordCount(5);

@@ -1,5 +1,5 @@
 -- What a sound state leaves room for: no sum wraps. Assumes nothing.
-use mathlib.Core.Path.{_≡_}
+use mathlib.Core.Path.{_≡_, refl}
 use mathlib.Core.Bool.{Bool, true, _&&_}
 use mathlib.Core.List.{List}
 use Prim.Native.Nat.{ℕ, _*_, _^_, _≤_}
@@ -12,9 +12,9 @@ use Rattle.layout.specs.Table.{part, creditAmount, boletoAmount}
 use Rattle.layout.specs.laws.Bytes.{and-left, and-right}
 use Rattle.layout.specs.declared.Record.{Record}
 use Rattle.layout.specs.declared.Record.the-variants.{FileHeader, BatchHeader, SegmentA, SegmentB, SegmentJ, SegmentJ52, SegmentZ, BatchTrailer, FileTrailer}
-use Rattle.checker.specs.Totals.{add, counts, batchesOf, paymentsOf, centsOf, amountDigits}
+use Rattle.checker.specs.Totals.{totals, add, counts, batchesOf, paymentsOf, centsOf, amountDigits}
 use Rattle.checker.specs.Machine.{sound}
-use Rattle.checker.specs.Steps.{Bounded, FitSum}
+use Rattle.checker.specs.inner.Steps.{Bounded, FitSum}
 use Rattle.checker.specs.declared.totals.Totals.{Totals}
 use Rattle.checker.specs.declared.Checker.{Checker}
 
@@ -61,9 +61,10 @@ bounded-sound b =
 -- ---- what a line counts
 
 pub record Small (r : Record) (rec : List ℕ) : Type 0 where
-  pub batches : batchesOf r ≤ 1
-  pub payments : paymentsOf r ≤ 1
-  pub cents : centsOf r rec ≤ paymentsOf r * 10 ^ amountDigits
+  pub batches : counts r rec .batches ≤ 1
+  pub records : counts r rec .records .0 ≡ 1
+  pub payments : counts r rec .payments ≤ 1
+  pub cents : counts r rec .cents .0 ≤ counts r rec .payments * 10 ^ amountDigits
 
 pub small : (r : Record) (rec : List ℕ) → Small r rec
 small FileHeader rec = omega arith
@@ -75,6 +76,18 @@ small SegmentJ52 rec = omega arith
 small SegmentZ rec = omega arith
 small BatchTrailer rec = omega arith
 small FileTrailer rec = omega arith
+
+-- part by part
+pub counts-are : (r : Record) (rec : List ℕ) → totals (batchesOf r) 1 (paymentsOf r) (centsOf r rec) ≡ counts r rec
+counts-are FileHeader rec = refl
+counts-are BatchHeader rec = refl
+counts-are SegmentA rec = refl
+counts-are SegmentB rec = refl
+counts-are SegmentJ rec = refl
+counts-are SegmentJ52 rec = refl
+counts-are SegmentZ rec = refl
+counts-are BatchTrailer rec = refl
+counts-are FileTrailer rec = refl
 
 -- ---- no sum of a line leaves 64 bits
 

@@ -21,14 +21,13 @@ use Rattle.checker.specs.Order.{follows}
 use Rattle.checker.specs.Totals.{add, paymentsOf, amountDigits}
 use Rattle.checker.specs.Line.{reads, behind, between, mostBatches, mostPayments, recordIn, rulesAs, houseRules, detailRules}
 use Rattle.checker.specs.Machine.{start, next, batchRecordsMost, stepOf}
-use Rattle.checker.specs.Steps.{Bounded}
-use Rattle.checker.specs.Calls.{Among}
+use Rattle.checker.specs.inner.Steps.{Bounded}
 use Rattle.checker.specs.declared.order.Phase.{Phase}
 use Rattle.checker.specs.declared.order.Phase.the-variants.{Start, Headed, Opened, Begun, Paid, Noted, Closed, Ended}
 use Rattle.checker.specs.declared.Checker.{Checker}
 use Rattle.answer.specs.laws.Order.{kept-front, kept-behind}
 use Rattle.checker.specs.laws.Bounds.{small}
-use Rattle.checker.specs.laws.Meaning.{refused-leaves, accepted-moves}
+use Rattle.checker.specs.laws.Meaning.{Among, refused-leaves, accepted-moves}
 
 -- ---- what every line keeps
 

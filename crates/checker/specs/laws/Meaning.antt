@@ -2,10 +2,11 @@
 use mathlib.Core.Path.{_≡_, refl, sym, ap, _∙_, subst}
 use mathlib.Core.Logic.{_↔_}
 use mathlib.Core.Bool.{Bool, true, false, cond}
-use mathlib.Core.List.{List, [], _∷_, List·Memᴰ·head, List·Memᴰ·tail}
+use mathlib.Core.List.{List, [], _∷_, List·Memᴰ, List·Memᴰ·head, List·Memᴰ·tail}
 use Prim.Native.Nat.{ℕ}
 use native.Mathlib.Omega.{arith}
 use borrow.Author.Tests.{eqb-true}
+use lib.ListN.{length}
 use Rattle.answer.specs.Rules.{noLine, refusal, refusedAs, firstBroken, AllKept, Broken, onLine}
 use Rattle.answer.specs.laws.Order.{kept-accepted, accepted-kept, broken-refused, refused-broken}
 use Rattle.answer.specs.declared.LineNo.{LineNo}
@@ -14,15 +15,29 @@ use Rattle.answer.specs.declared.Answer.{Answer}
 use Rattle.answer.specs.declared.Answer.the-variants.{Accepted, Refused}
 use Rattle.layout.specs.declared.Record.{Record}
 use Rattle.layout.specs.declared.Record.the-variants.{FileHeader, BatchHeader, SegmentA, SegmentB, SegmentJ, SegmentJ52, SegmentZ, BatchTrailer, FileTrailer}
-use Rattle.checker.specs.Order.{after, suits, readAs}
-use Rattle.checker.specs.Line.{recordIn, lineIs, found, dueRules, typeRules, lineRules, rulesOfLine}
+use Rattle.checker.specs.Order.{follows, after, suits, readAs}
+use Rattle.checker.specs.Line.{lineBytes, recordIn, lineIs, rulesAs, found, dueRules, typeRules, lineRules, rulesOfLine}
 use Rattle.checker.specs.Machine.{lineOf, next, moved, sound, stepped, answerTo, stepOf}
-use Rattle.checker.specs.Calls.{Breaks, Among, Edge}
+use Rattle.checker.specs.Calls.{Breaks}
 use Rattle.checker.specs.declared.order.Due.{Due}
 use Rattle.checker.specs.declared.order.Due.the-variants.{Line, Nothing}
 use Rattle.checker.specs.declared.Checker.{Checker}
 use Rattle.checker.specs.declared.Stepped.{Stepped}
 use Rattle.checker.specs.laws.Listed.{line-listed, broken-listed}
+
+-- a record is one of these
+abbrev pub Among : Record → List Record → Type 0
+Among r rs = List·Memᴰ r rs
+
+-- the edge that an accepted line takes: from a phase, a direction and a kind of batch, by a record that may follow there, to the phase behind it
+pub record Edge (s : Checker) (line : List ℕ) : Type 0 where
+  pub long : length line ≡ lineBytes
+  pub by : Record
+  pub read : lineIs s (recordIn line) ≡ Line by
+  pub may-follow : Among by (follows (s .phase) (s .dir) (s .batch))
+  pub rules-kept : AllKept (rulesAs by s (recordIn line))
+  pub moves : stepOf s line .state ≡ next by s (recordIn line)
+  pub to : stepOf s line .state .phase ≡ after by
 
 never : {A : Type 0} {r : Refusal} → Accepted ≡ Refused r → A
 never e = absurd (let z : _≡_ {A = ℕ} 0 1 = cc in omega arith)

@@ -13,10 +13,26 @@ use Rattle.answer.specs.declared.Answer.the-variants.{Accepted, Refused}
 use Rattle.checker.specs.Line.{lineBytes}
 use Rattle.checker.specs.Machine.{start, stepOf}
 use Rattle.checker.specs.File.{cut, linesOf, unless, steps, run, endOf, outcome, finish, checkFile}
-use Rattle.checker.specs.Calls.{Lines, empty, short, full, answers, left, firstOf}
+use Rattle.checker.specs.Calls.{left}
 use Rattle.checker.specs.declared.Checker.{Checker}
 use Rattle.checker.specs.declared.Stepped.{Stepped}
 use Rattle.checker.specs.declared.file.Outcome.{Outcome}
+
+-- lines of 242 bytes; a last one may be shorter, and is not empty
+pub data Lines : List (List ℕ) → Type 0 where
+  empty : Lines []
+  short : (l : List ℕ) → 1 ≤ length l → length l < lineBytes → Lines (l ∷ [])
+  full : (l : List ℕ) {ls : List (List ℕ)} → length l ≡ lineBytes → Lines ls → Lines (l ∷ ls)
+
+-- the answers of calls
+unfoldable pub answers : Checker → List (List ℕ) → List Answer
+answers s [] = []
+answers s (l ∷ ls) = stepOf s l .answer ∷ answers (stepOf s l .state) ls
+
+-- the first refusal among answers; none: the end's outcome
+unfoldable pub firstOf : List Answer → Outcome → Outcome
+firstOf [] end = end
+firstOf (a ∷ later) end = outcome a (firstOf later end)
 
 -- ---- the lines of bytes
 

@@ -5,7 +5,7 @@ use native.Mathlib.Omega.{arith}
 use borrow.Author.Needs.{needs}
 use lib.ListN.{length}
 use lib.Seq.{length-take-le}
-use Rattle.cnab240.specs.Sizes.{bufferBytes}
+use Rattle.cnab240.specs.inner.Sizes.{bufferBytes}
 use Rattle.cnab240.proofs.check.Statement.{statement}
 use Rattle.cnab240.proofs.check.Tie as tie
 

@@ -12,7 +12,7 @@ use lib.ListN.{length, getD, take, drop, set, length-append}
 use lib.Seq.{length-take-le, split-at, set-split, getD-set-same, take-set-le, drop-set-lt}
 use lib.Dec.{T}
 use Rattle.digits.specs.Digits.{digitOf, digitByte, weighed}
-use Rattle.digits.specs.Steps.{behind}
+use Rattle.digits.specs.inner.Steps.{behind}
 use Rattle.digits.specs.Checks.{base, counts, checkDigit}
 use Rattle.digits.specs.declared.sealing.Modulus.{Modulus}
 use Rattle.digits.specs.declared.sealing.Modulus.the-variants.{Eleven}

@@ -11,10 +11,10 @@ use Rattle.layout.specs.Table.{recordBytes}
 use Rattle.layout.specs.Record.{recordRules}
 use Rattle.layout.specs.declared.Direction.{Direction}
 use Rattle.layout.specs.declared.Record.{Record}
-use Rattle.fields.specs.Values.{recordOf, fieldsIn, readRecord, given}
+use Rattle.fields.specs.Values.{recordOf, fieldsIn, readRecord}
 use Rattle.fields.specs.laws.Parts.{record-length}
 use Rattle.fields.specs.laws.Kept.{right-length}
-use Rattle.fields.specs.laws.RoundTrip.{read-then-written, written-then-read}
+use Rattle.fields.specs.laws.RoundTrip.{given, read-then-written, written-then-read}
 use Rattle.fields.specs.declared.Fields.{Fields}
 
 -- an accepted read gives the record's fields

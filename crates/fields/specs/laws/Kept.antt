@@ -28,7 +28,7 @@ use Rattle.layout.specs.laws.Sound.{width, fills, stands, proper, Sound, sound-
 use Rattle.layout.specs.declared.Direction.{Direction}
 use Rattle.layout.specs.declared.Record.{Record}
 use Rattle.fields.specs.Values.{heldAs}
-use Rattle.fields.specs.Wide.{wide, wideNumber, widePlace}
+use Rattle.fields.specs.laws.Wide.{wide, wideNumber, widePlace}
 
 -- ---- bytes that give a number
 

@@ -14,14 +14,33 @@ use Rattle.digits.specs.Numbers.{numberOf, numeral}
 use Rattle.digits.specs.laws.Numerals.{given as digits-of, length-numeral, printed-parsed, parsed-printed, wide-not-parsed}
 use Rattle.digits.specs.declared.spelling.Number.the-variants.{Is}
 use Rattle.layout.specs.Table.{Field, part, fieldsOf, recordBytes, none}
-use Rattle.layout.specs.Kinds.{Held, asNumber}
+use Rattle.layout.specs.Kinds.{Held, asNumber, asBytes, asFixed}
 use Rattle.layout.specs.Record.{rulesOf, recordRules}
 use Rattle.layout.specs.declared.Direction.{Direction}
 use Rattle.layout.specs.declared.Record.{Record}
-use Rattle.fields.specs.Values.{heldAs, rendered, recordOf, numberIn, numbersIn, fieldsIn, number, bytes, givenFor, givenEach, given}
+use Rattle.fields.specs.Values.{heldAs, rendered, recordOf, numberIn, numbersIn, fieldsIn}
 use Rattle.fields.specs.laws.Parts.{part-width, record-length, holds, same-parts}
 use Rattle.fields.specs.laws.Kept.{Kept, is-number, is-bytes, is-fixed, kept-field, right-length, right-field}
 use Rattle.fields.specs.declared.Fields.{Fields}
+
+-- ---- what a caller gives for a field, or reads of it; fixed content is neither
+
+pub data Given : Type 0 where
+  number : ℕ → Given
+  bytes : List ℕ → Given
+  fixed : Given
+
+abbrev pub givenFor : Held → ℕ → List ℕ → Given
+givenFor asNumber n bs = number n
+givenFor asBytes n bs = bytes bs
+givenFor (asFixed content) n bs = fixed
+
+unfoldable pub givenEach : List Field → List ℕ → List ℕ → List Given
+givenEach [] ns text = []
+givenEach (f ∷ fs) ns text = givenFor (heldAs f) (getD ns 0 0) (part f text) ∷ givenEach fs (drop 1 ns) text
+
+unfoldable pub given : Record → Fields → List Given
+given r v = givenEach (fieldsOf r) (v .numbers) (v .text)
 
 -- ---- one field
 

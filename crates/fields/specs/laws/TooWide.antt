@@ -18,7 +18,7 @@ use Rattle.layout.specs.declared.Direction.{Direction}
 use Rattle.layout.specs.declared.Record.{Record}
 use Rattle.layout.specs.declared.Record.the-variants.{BatchHeader}
 use Rattle.fields.specs.Values.{heldAs, recordOf}
-use Rattle.fields.specs.Wide.{wideNumber, widePlace}
+use Rattle.fields.specs.laws.Wide.{wideNumber, widePlace}
 use Rattle.fields.specs.laws.Parts.{holds, part-width}
 use Rattle.fields.specs.laws.Kept.{no-number, rules-at}
 use Rattle.fields.specs.declared.Fields.{Fields}

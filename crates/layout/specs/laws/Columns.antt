@@ -12,7 +12,7 @@ use lib.Seq.{slice, getD-take, getD-drop, take-nil, take-take, drop-drop, take-a
 use Rattle.digits.specs.laws.Tests.{both}
 use Rattle.layout.specs.Table.{Kind, Field, field, fieldsOf, recordBytes, none, typeField, segmentFields}
 use Rattle.layout.specs.Lent.{records, rowOf, fieldsOfEach, all, startOf, spanOf, fieldCount, inColumn, kindOf, Columns}
-use Rattle.layout.specs.Steps.{mayBe, some, hasSegment}
+use Rattle.layout.specs.inner.Steps.{mayBe, some, hasSegment}
 use Rattle.layout.specs.laws.Tiling.{Inside, insides, All, join, at}
 use Rattle.layout.specs.laws.Sound.{Sound, sounds}
 use Rattle.layout.specs.declared.table.Span.{Span}

@@ -21,8 +21,8 @@ use Rattle.layout.specs.Pairs.{among}
 use Rattle.layout.specs.Table.{Kind, N, Id, T as Text, F, D, Time, K, O, Zeros, Exact, OneOf, Service, Form, Barcode, RecordType, Segment, Field, fieldsOf, recordBytes, none, tiles}
 use Rattle.layout.specs.Kinds.{aPart, means, same, oneOf, blank}
 use Rattle.layout.specs.Lent.{bytesFrom, all, startOf, whole?, mark?, firstLetter, kindOf}
-use Rattle.layout.specs.Steps.{mayBe}
-use Rattle.layout.specs.Masks.{maskOf, domainMask, highestIn, between, free, lowsOf, highsOf, within, Right}
+use Rattle.layout.specs.inner.Steps.{mayBe}
+use Rattle.layout.specs.inner.Masks.{maskOf, domainMask, highestIn, between, free, lowsOf, highsOf, within, Right}
 use Rattle.layout.specs.laws.Bytes.{and-left, and-right, same-self, same-true, length-places}
 use Rattle.layout.specs.laws.Texts.{so, other-kind}
 use Rattle.layout.specs.laws.Tiling.{tiled, head, ends, All, at}

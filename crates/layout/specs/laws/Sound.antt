@@ -10,7 +10,7 @@ use Rattle.digits.specs.Numbers.{mostDigits}
 use Rattle.digits.specs.laws.Tests.{both}
 use Rattle.layout.specs.Table.{Kind, N, Id, T as Text, F, D, Time, K, O, Zeros, Exact, OneOf, Service, Form, Barcode, RecordType, Segment, Field, serviceField, formField, fieldsOf, none}
 use Rattle.layout.specs.Kinds.{Held, asNumber, asBytes, asFixed, means}
-use Rattle.layout.specs.Steps.{mayBe}
+use Rattle.layout.specs.inner.Steps.{mayBe}
 use Rattle.layout.specs.laws.Tiling.{All, at}
 use Rattle.layout.specs.declared.Record.{Record}
 use Rattle.layout.specs.declared.Record.the-variants.{FileHeader, BatchHeader, SegmentA, SegmentB, SegmentJ, SegmentJ52, SegmentZ, BatchTrailer, FileTrailer}

@@ -13,7 +13,7 @@ use Rattle.digits.specs.laws.Tests.{every, every-at}
 use Rattle.layout.specs.Table.{Kind, F, RecordType, Segment}
 use Rattle.layout.specs.Kinds.{asNumber, asBytes, asFixed, means, blank, run, text, same}
 use Rattle.layout.specs.Lent.{kinds, firstMark, firstLetter, lastMark, mark?, kindOf, mostBlanks, mostZeros, texts, fixedText, fixedBytes, markAt, fillAs, fillOf}
-use Rattle.layout.specs.Steps.{mayBe}
+use Rattle.layout.specs.inner.Steps.{mayBe}
 use Rattle.layout.specs.laws.Bytes.{and-left, and-right, same-true}
 use Rattle.layout.specs.declared.kinds.Fill.{Fill}
 use Rattle.layout.specs.declared.kinds.Fill.the-variants.{Number, Text, Fixed}

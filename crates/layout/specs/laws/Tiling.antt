@@ -10,9 +10,16 @@ use native.Mathlib.Omega.{arith}
 use lib.Dec.{T, eqb, leb, eqb→eq, leb→le}
 use lib.ListN.{length, getD}
 use Rattle.digits.specs.laws.Tests.{both}
-use Rattle.layout.specs.Table.{Field, fieldsOf, recordBytes, tiles, none, HeldOnce}
+use Rattle.layout.specs.Table.{Field, fieldsOf, recordBytes, tiles, none}
 use Rattle.layout.specs.declared.Record.{Record}
 use Rattle.layout.specs.declared.Record.the-variants.{FileHeader, BatchHeader, SegmentA, SegmentB, SegmentJ, SegmentJ52, SegmentZ, BatchTrailer, FileTrailer}
+
+-- one field of the list holds the place q, and no other does
+pub record HeldOnce (fs : List Field) (q : ℕ) : Type 0 where
+  pub index : ℕ
+  pub below : index < length fs
+  pub holds : ((getD fs index none) .from ≤ q) × (q ≤ (getD fs index none) .to)
+  pub only : (j : ℕ) → j < length fs → (getD fs j none) .from ≤ q → q ≤ (getD fs j none) .to → j ≡ index
 
 pub tiled : (r : Record) → T (tiles 1 (fieldsOf r))
 unfolding tiles fieldsOf

@@ -1,7 +1,7 @@
 -- `probe::output_memory` meets its contract. Assumes nothing.
 use Prim.Native.Nat.{ℕ}
 use lib.ListN.{length-replicate}
-use Rattle.probe.specs.Sizes.{mostBytes}
+use Rattle.probe.specs.inner.Sizes.{mostBytes}
 use Rattle.probe.proofs.output_memory.Statement.{statement}
 use Rattle.probe.proofs.output_memory.Tie as tie
 

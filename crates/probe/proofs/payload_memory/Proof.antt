@@ -1,7 +1,7 @@
 -- `probe::payload_memory` meets its contract. Assumes nothing.
 use Prim.Native.Nat.{ℕ}
 use lib.ListN.{length-replicate}
-use Rattle.probe.specs.Sizes.{mostAnnounced}
+use Rattle.probe.specs.inner.Sizes.{mostAnnounced}
 use Rattle.probe.proofs.payload_memory.Statement.{statement}
 use Rattle.probe.proofs.payload_memory.Tie as tie
 

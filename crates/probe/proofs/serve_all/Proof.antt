@@ -2,7 +2,7 @@
 use mathlib.Core.Path.{_≡_}
 use borrow.Author.Needs.{needs}
 use lib.ListN.{length}
-use Rattle.probe.specs.Sizes.{mostAnnounced, mostBytes}
+use Rattle.probe.specs.inner.Sizes.{mostAnnounced, mostBytes}
 use Rattle.probe.proofs.serve_all.Statement.{statement}
 use Rattle.probe.proofs.serve_all.Tie as tie
 

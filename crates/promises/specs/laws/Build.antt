@@ -23,7 +23,9 @@ use Rattle.layout.specs.declared.Record.the-variants.{FileHeader, BatchHeader, 
 use Rattle.layout.specs.declared.pairs.Batch.{Batch}
 use Rattle.layout.specs.declared.pairs.Batch.the-variants.{Unknown}
 use Rattle.fields.specs.laws.Kept.{Kept, is-fixed, kept-field}
-use Rattle.checker.specs.Totals.{totals, none, add, batchesOf, paymentsOf, centsOf, counts}
+use Rattle.checker.specs.Order.{after}
+use Rattle.checker.specs.Totals.{totals, none, add, batchesOf, paymentsOf, centsOf}
+use Rattle.checker.specs.laws.Bounds.{counts-are}
 use Rattle.checker.specs.Line.{recordIn, mostBatches, mostPayments}
 use Rattle.checker.specs.Machine.{state, start, next, inBatch}
 use Rattle.checker.specs.Calls.{Reached, at-start, Through, here, Passed}
@@ -116,10 +118,13 @@ module _ {d : Direction} {b : Batch} {n : ℕ} {x : Totals} where
       let i = is-detail r s type in
       let numbers : AllRead (asked r s) l = rw (i .asks, e) (w .bank-is, (w .batch-is, (number, tt))) in
       let fit : Fits r s l = record { right = w .right; numbers = numbers; limit = i .limits (omega arith) } in
-      let first : Through s (l ∷ []) (inBatch r b s rec) = rw (← i .moves rec) (one at f fit) in
+      let counted = totals (batchesOf r) 1 (paymentsOf r) (centsOf r rec) in
+      let moved : next r s rec ≡ state (after r) d b n x (add y counted) =
+      i .moves rec ∙ ap (λ (c : Totals). state (after r) d b n x (add y c)) (sym (counts-are r rec)) in
+      let first : Through s (l ∷ []) (state (after r) d b n x (add y counted)) = rw (← moved) (one at f fit) in
       let z = i .opens in
-      let rest = details-through (add y (counts r rec)) t ds (omega arith) (omega arith) (through-reached at first) in
-      let sum : add (add y (counts r rec)) (totals 0 (length ls) k c) ≡ add y (totals 0 (length (l ∷ ls)) (k + paymentsOf r) (centsOf r rec + c)) =
+      let rest = details-through (add y counted) t ds (omega arith) (omega arith) (through-reached at first) in
+      let sum : add (add y counted) (totals 0 (length ls) k c) ≡ add y (totals 0 (length (l ∷ ls)) (k + paymentsOf r) (centsOf r rec + c)) =
       same-totals (omega arith) in
       record { to = rest .to; closes = rest .closes; through = rw (← sum) (through-append first (rest .through)) }
 

@@ -17,8 +17,8 @@ use Rattle.layout.specs.declared.pairs.Batch.{Batch}
 use Rattle.checker.specs.Order.{after, ended}
 use Rattle.checker.specs.Totals.{totals, none, add, batchesOf, paymentsOf, centsOf, counts}
 use Rattle.checker.specs.Line.{ordinal, mostBatches, mostPayments, trailerBatch, recordIn}
-use Rattle.checker.specs.Machine.{start, directionOf, inBatch, next}
-use Rattle.checker.specs.Steps.{Bounded}
+use Rattle.checker.specs.Machine.{state, start, directionOf, next}
+use Rattle.checker.specs.inner.Steps.{Bounded}
 use Rattle.checker.specs.Calls.{Reached, at-start, after-line, Through, here, further}
 use Rattle.checker.specs.declared.order.Phase.{Phase}
 use Rattle.checker.specs.declared.order.Phase.the-variants.{Start, Headed, Opened, Begun, Paid, Noted, Closed, Ended}
@@ -130,9 +130,14 @@ module _ (s : Checker) (l : List ℕ) (ls : List (List ℕ)) (t : Totals) where
         later = on (omega arith);
       }
 
+  -- the state behind a detail, part by part
+  abbrev counting : Record → Checker
+  counting r =
+      state (after r) (s .dir) (s .batch) (s .bank) (s .closed) (add (s .current) (totals (batchesOf r) 1 (paymentsOf r) (centsOf r (recordIn l))))
+
   -- a detail
   detail-by : {p : Phase} {r : Record} → Follows (s .dir) (s .batch) p r → typeOf r ≡ digitByte 3 → batchesOf r ≡ 0 → RightLine r (s .dir) l
-      → AllRead (inDetail s) l → Within (after r) (inBatch r (s .batch) s (recordIn l)) ls t → Within p s (l ∷ ls) t
+      → AllRead (inDetail s) l → Within (after r) (counting r) ls t → Within p s (l ∷ ls) t
   unfolding add AllRead
   detail-by {p} {r} f type opens right n y =
       record {

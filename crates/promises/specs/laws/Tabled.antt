@@ -19,7 +19,7 @@ use Rattle.digits.specs.laws.Strings.{leading-le}
 use Rattle.digits.specs.laws.Tests.{both}
 use Rattle.boleto.specs.Strings.{barcodeDigits, lineDigits}
 use Rattle.boleto.specs.Rules as boleto
-use Rattle.layout.specs.Table.{marks, fieldsOf, recordBytes}
+use Rattle.layout.specs.Table.{isOneOf, marks, fieldsOf, recordBytes}
 use Rattle.layout.specs.Record.{rulesOf, byteRule, clean, recordRules}
 use Rattle.layout.specs.Lent.{all, fieldsOfEach}
 use Rattle.layout.specs.laws.Bytes.{clean-le}
@@ -37,7 +37,7 @@ use Rattle.checker.specs.declared.totals.Totals.{Totals}
 use Rattle.checker.specs.declared.Checker.{Checker}
 use Rattle.writer.specs.Given.{Call, openFile, openBatch, pay, closeBatch, closeFile, recordsOf}
 use Rattle.writer.specs.Filling.{bytesOf}
-use Rattle.writer.specs.Refusals.{turnLimits, lastRules, isOneOf, dueIn, dueNow, givenRules, nextBy, allGiven, callRules}
+use Rattle.writer.specs.Refusals.{turnLimits, lastRules, dueIn, dueNow, givenRules, nextBy, allGiven, callRules}
 use Rattle.writer.specs.Calls.{Whole, AllWhole, no-more, and-then}
 use Rattle.writer.specs.laws.Lines.{bytes-length}
 use Rattle.writer.specs.declared.given.Detail.{Detail}

@@ -9,7 +9,7 @@ use Rattle.answer.specs.Rules.{Rule, firstBroken, AllKept, rulesOnLine}
 use Rattle.answer.specs.laws.Order.{kept-accepted, accepted-kept, kept-front, kept-behind}
 use Rattle.answer.specs.declared.LineNo.{LineNo}
 use Rattle.answer.specs.declared.Answer.the-variants.{Accepted}
-use Rattle.layout.specs.Table.{fieldsOf}
+use Rattle.layout.specs.Table.{fieldsOf, isOneOf}
 use Rattle.layout.specs.Record.{rulesOf, allPrintable}
 use Rattle.layout.specs.declared.Record.{Record}
 use Rattle.checker.specs.Line.{houseRules}
@@ -17,7 +17,7 @@ use Rattle.checker.specs.Machine.{lineOf}
 use Rattle.checker.specs.declared.Checker.{Checker}
 use Rattle.writer.specs.Given.{Call, recordsOf}
 use Rattle.writer.specs.Filling.{bytesOf}
-use Rattle.writer.specs.Refusals.{turnLimits, isOneOf, dueIn, dueNow, givenRules, givenOnLine, nextBy, allGiven, sumRules, lastRules, held, callRules}
+use Rattle.writer.specs.Refusals.{turnLimits, dueIn, dueNow, givenRules, givenOnLine, nextBy, allGiven, sumRules, lastRules, held, callRules}
 use Rattle.writer.specs.Outcome.{answerOf, cursorBehind}
 use Rattle.writer.specs.Calls.{Whole, AllWhole, no-more, and-then}
 use Rattle.writer.specs.declared.given.Detail.{Detail}

@@ -17,7 +17,8 @@ use Rattle.layout.specs.Table.{creditAmount, boletoAmount, fieldsOf}
 use Rattle.layout.specs.declared.Record.{Record}
 use Rattle.layout.specs.declared.Record.the-variants.{FileHeader, BatchHeader, SegmentA, SegmentB, SegmentJ, SegmentJ52, SegmentZ, BatchTrailer, FileTrailer}
 use Rattle.fields.specs.declared.Fields.{Fields}
-use Rattle.checker.specs.Totals.{totals, none, add, counts, centsOf}
+use Rattle.checker.specs.Totals.{totals, none, add, counts, centsOf, batchesOf, paymentsOf}
+use Rattle.checker.specs.laws.Bounds.{counts-are}
 use Rattle.checker.specs.Machine.{next}
 use Rattle.checker.specs.declared.totals.Totals.{Totals}
 use Rattle.checker.specs.declared.Checker.{Checker}
@@ -103,7 +104,10 @@ all-counted : {due : List (List Record)} {s : Checker} {gs : List Detail} → Ri
 unfolding behindAll countsAll
 all-counted {s = s} accepted.none = sym (add-none (counted s))
 all-counted {s = s} (accepted.more {g = g} t rs) =
-    all-counted rs ∙ rw (next-counts (g .which) s (bytesOf s g), amount-is (g .which) (g .fields) t) (add-assoc (counted s) _ _)
+    let rec = bytesOf s g in
+    let same = amount-is (g .which) (g .fields) t in
+    let given-counts = sym (counts-are (g .which) rec) ∙ ap (totals (batchesOf (g .which)) 1 (paymentsOf (g .which))) same in
+    all-counted rs ∙ rw (next-counts (g .which) s rec, given-counts) (add-assoc (counted s) _ _)
 
 -- a payment's are two or three, and one payment
 added : (n a : ℕ) → add (totals 0 1 1 a) (add (totals 0 1 0 0) (totals 0 n 0 0)) ≡ totals 0 (suc (suc n)) 1 a

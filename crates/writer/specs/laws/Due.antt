@@ -6,6 +6,7 @@ use Prim.Native.Nat.{ℕ}
 use native.Mathlib.Omega.{arith}
 use borrow.Author.Tests.{eqb-true}
 use lib.ListN.{getD}
+use Rattle.layout.specs.Table.{code, isOneOf}
 use Rattle.layout.specs.declared.Direction.{Direction}
 use Rattle.layout.specs.declared.Direction.the-variants.{Remittance, Return}
 use Rattle.layout.specs.declared.Record.{Record}
@@ -19,7 +20,7 @@ use Rattle.checker.specs.declared.order.Phase.{Phase}
 use Rattle.checker.specs.declared.order.Phase.the-variants.{Begun, Paid, Noted}
 use Rattle.checker.specs.declared.totals.Totals.{Totals}
 use Rattle.writer.specs.Given.{amountOf}
-use Rattle.writer.specs.Refusals.{code, isOneOf, notes}
+use Rattle.writer.specs.Refusals.{notes}
 
 pub never : {A : Type 0} → false ≡ true → A
 never e = absurd (let z : _≡_ {A = ℕ} 0 1 = cc in omega arith)

@@ -9,7 +9,7 @@ use Rattle.answer.specs.Rules.{Rule, rulesOnLine}
 use Rattle.answer.specs.declared.LineNo.{LineNo}
 use Rattle.answer.specs.declared.Refusal.{Refusal}
 use Rattle.answer.specs.declared.Answer.the-variants.{Refused}
-use Rattle.layout.specs.Table.{Kind, N, Id, T as Text, F, D, Time, K, O, Zeros, Exact, OneOf, Service, Form, Barcode, RecordType, Segment, Field, part, fieldsOf, none as no-field}
+use Rattle.layout.specs.Table.{Kind, N, Id, T as Text, F, D, Time, K, O, Zeros, Exact, OneOf, Service, Form, Barcode, RecordType, Segment, Field, part, fieldsOf, none as no-field, isOneOf}
 use Rattle.layout.specs.Kinds.{Part, means, same, blankIn}
 use Rattle.layout.specs.Record.{partOf, rulesOf}
 use Rattle.layout.specs.laws.Bytes.{same-self}
@@ -24,7 +24,7 @@ use Rattle.checker.specs.Machine.{lineOf}
 use Rattle.checker.specs.declared.Checker.{Checker}
 use Rattle.writer.specs.Given.{Call, openFile, openBatch, pay, closeBatch, closeFile, recordsOf}
 use Rattle.writer.specs.Filling.{filled, bytesOf}
-use Rattle.writer.specs.Refusals.{turnLimits, isOneOf, dueIn, dueNow, givenRules, nextBy, allGiven, sumRules, callRules}
+use Rattle.writer.specs.Refusals.{turnLimits, dueIn, dueNow, givenRules, nextBy, allGiven, sumRules, callRules}
 use Rattle.writer.specs.Outcome.{answerOf}
 use Rattle.writer.specs.Calls.{Whole, AllWhole, no-more, and-then}
 use Rattle.writer.specs.declared.given.Detail.{Detail}

@@ -10,13 +10,14 @@ use Rattle.answer.specs.laws.Order.{here}
 use Rattle.answer.specs.declared.LineNo.{LineNo}
 use Rattle.answer.specs.declared.Refusal.{Refusal}
 use Rattle.answer.specs.declared.Answer.the-variants.{Refused}
+use Rattle.layout.specs.Table.{isOneOf}
 use Rattle.layout.specs.declared.Record.{Record}
 use Rattle.checker.specs.Machine.{lineOf}
 use Rattle.checker.specs.laws.Verdict.{next-line-no}
 use Rattle.checker.specs.declared.Checker.{Checker}
 use Rattle.writer.specs.Given.{Call, openFile, openBatch, pay, closeBatch, closeFile, recordsOf}
 use Rattle.writer.specs.Filling.{bytesOf}
-use Rattle.writer.specs.Refusals.{turnLimits, isOneOf, dueIn, dueNow, givenRules, nextBy, allGiven, lastRules, held, callRules}
+use Rattle.writer.specs.Refusals.{turnLimits, dueIn, dueNow, givenRules, nextBy, allGiven, lastRules, held, callRules}
 use Rattle.writer.specs.Outcome.{answerOf}
 use Rattle.writer.specs.declared.given.Detail.{Detail}
 use Rattle.writer.specs.declared.Writer.{Writer}

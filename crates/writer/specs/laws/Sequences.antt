@@ -15,11 +15,11 @@ use Rattle.checker.specs.Totals.{none, add}
 use Rattle.checker.specs.Line.{rulesOfLine, lineBytes}
 use Rattle.checker.specs.Machine.{start}
 use Rattle.checker.specs.File.{checkFile}
-use Rattle.checker.specs.Calls.{Reached, at-start, Through, here, further, Lines, empty, full}
+use Rattle.checker.specs.Calls.{Reached, at-start, Through, here, further}
 use Rattle.checker.specs.laws.Bounds.{bounded-sound}
 use Rattle.checker.specs.laws.Kept as checker
 use Rattle.checker.specs.laws.Reached.{reached-kept}
-use Rattle.checker.specs.laws.Runs.{lines-are}
+use Rattle.checker.specs.laws.Runs.{Lines, empty, full, lines-are}
 use Rattle.checker.specs.laws.Verdict.{through-reached, accepted-file}
 use Rattle.checker.specs.declared.order.Phase.the-variants.{Ended}
 use Rattle.checker.specs.declared.file.Outcome.the-variants as outcome

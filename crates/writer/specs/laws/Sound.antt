@@ -7,6 +7,7 @@ use native.Mathlib.Omega.{arith}
 use borrow.Author.Tests.{leb-true, ltb-true}
 use lib.Dec.{leb}
 use Rattle.answer.specs.Limits.{fileCents}
+use Rattle.layout.specs.Table.{isOneOf}
 use Rattle.layout.specs.laws.Bytes.{and-left, and-right}
 use Rattle.layout.specs.declared.Direction.{Direction}
 use Rattle.layout.specs.declared.Record.{Record}
@@ -16,12 +17,12 @@ use Rattle.checker.specs.Order.{first, second}
 use Rattle.checker.specs.Totals.{add}
 use Rattle.checker.specs.Line.{mostPayments}
 use Rattle.checker.specs.Machine.{next, sound, batchRecordsMost}
-use Rattle.checker.specs.Steps.{Bounded}
+use Rattle.checker.specs.inner.Steps.{Bounded}
 use Rattle.checker.specs.laws.Bounds.{bounded, bounded-sound, small}
 use Rattle.checker.specs.declared.order.Phase.the-variants.{Begun, Paid}
 use Rattle.checker.specs.declared.Checker.{Checker}
 use Rattle.writer.specs.Filling.{bytesOf}
-use Rattle.writer.specs.Refusals.{isOneOf, nextBy, mostDetails, centsSoFar, held}
+use Rattle.writer.specs.Refusals.{nextBy, mostDetails, centsSoFar, held}
 use Rattle.writer.specs.declared.given.Detail.{Detail}
 use Rattle.writer.specs.laws.Due.{Pays, is-A, is-B, is-J, is-J52, begins, goes-on}
 

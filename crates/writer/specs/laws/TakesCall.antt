@@ -23,7 +23,7 @@ use Rattle.writer.specs.Filling.{bytesOf}
 use Rattle.writer.specs.Refusals.{dueInPayment, turns, notes, dueIn, nextBy}
 use Rattle.writer.specs.Outcome.{answerOf, linesFor, behindAll}
 use Rattle.writer.specs.Calls.{AllWhole}
-use Rattle.writer.specs.Steps.{MayPay}
+use Rattle.writer.specs.inner.Steps.{MayPay}
 use Rattle.writer.specs.declared.given.Detail.{Detail}
 use Rattle.writer.specs.declared.given.Payment.{Payment}
 use Rattle.writer.specs.declared.Writer.{Writer}

@@ -5,7 +5,7 @@ use mathlib.Core.Path.{_≡_, ap, _∙_}
 use native.Mathlib.Omega.{arith}
 use Rattle.answer.specs.Rules.{rule, firstBroken}
 use Rattle.answer.specs.laws.Order.{ahead, joined}
-use Rattle.checker.specs.Steps.{detailHead}
+use Rattle.checker.specs.inner.Steps.{detailHead}
 use Rattle.checker.proofs.Fields.{segment-rule, behind-head, at-head}
 use borrow.Author.Needs.{needs}
 use Rattle.checker.proofs.Checker.check_detail.Statement.{statement}

@@ -7,7 +7,7 @@ use borrow.Author.Needs.{needs}
 use lib.ListN.{length, getD, drop}
 use lib.Seq.{drop-length}
 use Rattle.digits.specs.Digits.{digitOf, weighed}
-use Rattle.digits.specs.Steps.{behind}
+use Rattle.digits.specs.inner.Steps.{behind}
 use Rattle.digits.specs.Checks.{counts}
 use Rattle.digits.specs.laws.Sums.{weighed-drop}
 use Rattle.digits.proofs.Small.{counts-small}

@@ -8,7 +8,7 @@ use borrow.Author.Needs.{needs}
 use lib.ListN.{length, drop}
 use lib.Seq.{drop-length}
 use Rattle.digits.specs.Digits.{weighed}
-use Rattle.digits.specs.Steps.{behind}
+use Rattle.digits.specs.inner.Steps.{behind}
 use Rattle.digits.specs.Checks.{base, counts}
 use Rattle.digits.specs.laws.Sums.{turn}
 use Rattle.digits.specs.laws.Moduli.{base-pos}

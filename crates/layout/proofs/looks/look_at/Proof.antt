@@ -4,7 +4,7 @@ use mathlib.Core.List.{[], _∷_}
 use borrow.Author.Needs.{needs}
 use Rattle.answer.specs.laws.Order.{done}
 use Rattle.layout.specs.Kinds.{run, text, blank}
-use Rattle.layout.specs.Steps.{for-digits, tested}
+use Rattle.layout.specs.inner.Steps.{for-digits, tested}
 use Rattle.layout.specs.laws.Texts.{mark-bounds, none-below, other-kind, blanks-there, zeros-there, c-there, code-09-there, code-52-there}
 use Rattle.layout.proofs.Rows.{of-kind, at-key, for-blank, for-string, for-mark}
 use Rattle.layout.proofs.looks.look_at.Statement.{statement}

@@ -6,7 +6,7 @@ use native.Mathlib.Numerals.{add-one}
 use borrow.Author.Needs.{needs}
 use lib.ListN.{drop, drop-of-length-le}
 use Rattle.layout.specs.Table.{recordBytes}
-use Rattle.layout.specs.Masks.{within}
+use Rattle.layout.specs.inner.Masks.{within}
 use Rattle.digits.specs.laws.Tests.{and-regroup}
 use Rattle.layout.specs.laws.Masks.{within-turn}
 use Rattle.layout.proofs.masks.fits.Statement.{statement}

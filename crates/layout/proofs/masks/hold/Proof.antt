@@ -2,7 +2,7 @@
 use borrow.Author.Needs.{needs}
 use Rattle.layout.specs.Table.{fieldsOf}
 use Rattle.layout.specs.Kinds.{same}
-use Rattle.layout.specs.Masks.{lowsOf, highsOf}
+use Rattle.layout.specs.inner.Masks.{lowsOf, highsOf}
 use Rattle.layout.proofs.masks.hold.Statement.{statement}
 use Rattle.layout.proofs.masks.hold.Tie as tie
 

@@ -3,7 +3,7 @@ use mathlib.Core.Path.{_≡_}
 use Prim.Native.Nat.{_+_, _*_, _-_, _≤_}
 use borrow.Author.Needs.{needs}
 use lib.ListN.{length}
-use Rattle.probe.specs.Sizes.{numberDigits, mostNumbers}
+use Rattle.probe.specs.inner.Sizes.{numberDigits, mostNumbers}
 use Rattle.probe.proofs.records.fields_of.Statement.{statement}
 use Rattle.probe.proofs.records.fields_of.Tie as tie
 

@@ -12,7 +12,7 @@ use Rattle.writer.proofs.Lent.{whole, lent}
 use Rattle.writer.specs.Given.{given}
 use Rattle.writer.specs.Outcome.{cursorBehind, behindAll, linesFor}
 use Rattle.writer.specs.Refusals.{givenOnLine}
-use Rattle.writer.specs.Steps.{oneRules, lineWith}
+use Rattle.writer.specs.inner.Steps.{oneRules, lineWith}
 use borrow.Author.Needs.{needs}
 use denote.Ref.{now}
 use lib.ListN.{length, length-drop}

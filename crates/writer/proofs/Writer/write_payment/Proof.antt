@@ -15,7 +15,7 @@ use Rattle.writer.specs.Given.{given}
 use Rattle.writer.specs.Given.{recordsIn}
 use Rattle.writer.specs.Outcome.{cursorBehind}
 use Rattle.writer.specs.Refusals.{dueInPayment, allGiven, sumRule, size}
-use Rattle.writer.specs.Steps.{paymentRules, linesWith}
+use Rattle.writer.specs.inner.Steps.{paymentRules, linesWith}
 use borrow.Author.Needs.{needs}
 use denote.Ref.{now}
 use lib.ListN.{length, length-drop}

@@ -1,7 +1,7 @@
 -- `writer::payments::put_payment` meets its contract: line behind line. Assumes nothing.
 use Prim.Native.Nat.{_-_}
 use Rattle.writer.proofs.Lent.{whole, lent, line-long, thirdOver, third-room, second-over, all-over}
-use Rattle.writer.specs.Steps.{lineWith}
+use Rattle.writer.specs.inner.Steps.{lineWith}
 use borrow.Author.Needs.{needs}
 use lib.ListN.{length, take, drop, length-drop}
 use mathlib.Core.Path.{ap, _∙_}
