@@ -7,3 +7,11 @@ pub mod Shape
 pub mod Parse
 pub mod Build
 pub mod Accepted
+pub mod Differ
+pub mod Records
+pub mod SameLine
+pub mod SameBoleto
+pub mod Behind
+pub mod NextLine
+pub mod OtherRecord
+pub mod Change

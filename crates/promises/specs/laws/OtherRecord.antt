@@ -1,0 +1,121 @@
+-- Two lines at one state that differ at one place, both on the way to the end, are read as one record. Assumes nothing.
+use mathlib.Core.Path.{_≡_, refl, sym, ap, _∙_, subst}
+use mathlib.Core.Logic.{_≢_}
+use mathlib.Core.List.{List}
+use Prim.Native.Nat.{ℕ}
+use native.Mathlib.Omega.{arith}
+use lib.Dec.{lit≤}
+use lib.ListN.{length, take, drop}
+use lib.Seq.{take-take}
+use Rattle.answer.specs.Rules.{AllKept}
+use Rattle.digits.specs.Digits.{digitByte, leading, place}
+use Rattle.digits.specs.Numbers.{numberOf}
+use Rattle.digits.specs.declared.spelling.Number.the-variants.{Not}
+use Rattle.layout.specs.Table.{Field, part, field, K, typeOf, typePlace, fieldsOf, batchField, numberField}
+use Rattle.layout.specs.Kinds.{run, blank}
+use Rattle.layout.specs.laws.Bytes.{same-true, length-places}
+use Rattle.layout.specs.declared.Direction.{Direction}
+use Rattle.layout.specs.declared.Record.{Record}
+use Rattle.layout.specs.declared.Record.the-variants.{BatchHeader, SegmentZ, BatchTrailer, FileTrailer}
+use Rattle.layout.specs.declared.pairs.Batch.{Batch}
+use Rattle.checker.specs.Line.{ordinal, trailerBatch, recordIn}
+use Rattle.checker.specs.declared.order.Phase.{Phase}
+use Rattle.checker.specs.declared.Checker.{Checker}
+use Rattle.promises.specs.Grammar.{RightLine}
+use Rattle.promises.specs.Guarded.{In}
+use Rattle.promises.specs.laws.Edges.{Begins, by-A, by-J, GoesOn, by-B, by-J52, Follows, heads, first-batch, first-payment, goes-on, notes, pays-behind, pays-noted, closes-paid, closes-noted, next-batch, ends}
+use Rattle.promises.specs.laws.Facts.{Asked, AllRead, Fits}
+use Rattle.promises.specs.laws.Differ.{Differ, turned, kept}
+use Rattle.promises.specs.laws.Records.{detail-of}
+use Rattle.promises.specs.laws.SameLine.{right-at}
+use Rattle.promises.specs.laws.Behind.{Goes}
+use Rattle.promises.specs.laws.NextLine.{begins-detail, not-noted}
+
+-- ---- two records that may follow at one state
+
+data Apart (b : Batch) : Record → Record → Type 0 where
+  pays-or-closes : {r : Record} → typeOf r ≡ digitByte 3 → Apart b r BatchTrailer
+  opens-or-ends : Apart b BatchHeader FileTrailer
+  begins-or-notes : {r : Record} → Begins b r → Apart b r SegmentZ
+
+data Two (b : Batch) (r r′ : Record) : Type 0 where
+  one : r ≡ r′ → Two b r r′
+  apart : Apart b r r′ → Two b r r′
+  apart-turned : Apart b r′ r → Two b r r′
+
+one-begins : {b : Batch} {r r′ : Record} → Begins b r → Begins b r′ → Two b r r′
+one-begins by-A by-A = one refl
+one-begins by-J by-J = one refl
+
+one-goes-on : {b : Batch} {r r′ : Record} → GoesOn b r → GoesOn b r′ → Two b r r′
+one-goes-on by-B by-B = one refl
+one-goes-on by-J52 by-J52 = one refl
+
+two : {d : Direction} {b : Batch} {p : Phase} {r r′ : Record} → Follows d b p r → Follows d b p r′ → Two b r r′
+two heads heads = one refl
+two first-batch first-batch = one refl
+two (first-payment g) (first-payment h) = one-begins g h
+two (goes-on g) (goes-on h) = one-goes-on g h
+two (notes e) (notes h) = one refl
+two (notes e) (pays-behind h) = apart-turned (begins-or-notes h)
+two (notes e) closes-paid = apart (pays-or-closes refl)
+two (pays-behind g) (notes h) = apart (begins-or-notes g)
+two (pays-behind g) (pays-behind h) = one-begins g h
+two (pays-behind g) closes-paid = apart (pays-or-closes (begins-detail g))
+two closes-paid (notes h) = apart-turned (pays-or-closes refl)
+two closes-paid (pays-behind h) = apart-turned (pays-or-closes (begins-detail h))
+two closes-paid closes-paid = one refl
+two (pays-noted g) (pays-noted h) = one-begins g h
+two (pays-noted g) closes-noted = apart (pays-or-closes (begins-detail g))
+two closes-noted (pays-noted h) = apart-turned (pays-or-closes (begins-detail h))
+two closes-noted closes-noted = one refl
+two next-batch next-batch = one refl
+two next-batch ends = apart opens-or-ends
+two ends next-batch = apart-turned opens-or-ends
+two ends ends = one refl
+
+-- ---- what the lines show
+
+-- a batch trailer has blanks where a detail has its number
+blank-number : {dir : Direction} (l : List ℕ) → RightLine BatchTrailer dir l → numberOf (part numberField (recordIn l)) ≡ Not
+unfolding fieldsOf AllKept numberOf leading
+blank-number l a =
+    let bs = part (field 9 17 K) (recordIn l) in
+    let long = length-places 9 17 (recordIn l) (omega (arith, a .long)) in
+    let is = same-true (run blank (length bs)) bs (right-at a 3 (lit≤ tt) .0) in
+    ap numberOf (sym (take-take 5 9 (drop 8 (recordIn l)) (omega arith)) ∙ ap (take 5) (sym is ∙ ap (run blank) long))
+
+module _ {p : ℕ} (s : Checker) (l l′ : List ℕ) (d : Differ p (recordIn l) (recordIn l′)) where
+  -- where the types differ, other fields read the same
+  aside : (f : Field) → (In f typePlace → ⊥) → place typePlace (recordIn l) ≢ place typePlace (recordIn l′)
+      → numberOf (part f (recordIn l)) ≡ numberOf (part f (recordIn l′))
+  aside f out ne = ap numberOf (kept d f (λ k. ne (d .other typePlace (omega arith) (λ e. out (subst (In f) (sym e) k)))))
+
+  not-closes : {r : Record} → typeOf r ≡ digitByte 3 → Fits r s l → Fits BatchTrailer s l′
+      → numberOf (part numberField (recordIn l)) ≡ numberOf (part numberField (recordIn l′)) → ⊥
+  unfolding AllRead
+  not-closes {r} e f f′ same =
+      let numbers = subst (λ (k : Asked). AllRead k l) (detail-of r e .asks s) (f .numbers) in
+      let z : _≡_ {A = ℕ} 0 1 = cc (numbers .1 .1 .0, blank-number l′ (f′ .right)) in
+      omega arith
+
+  -- a batch header has a small batch number, the file trailer 9999
+  not-ends : Fits BatchHeader s l → Fits FileTrailer s l′ → numberOf (part batchField (recordIn l)) ≡ numberOf (part batchField (recordIn l′)) → ⊥
+  unfolding AllRead
+  not-ends f f′ same =
+      let number : ordinal s ≡ trailerBatch = cc (f .numbers .1 .0, f′ .numbers .1 .0) in
+      omega (arith, f .limit)
+
+  not-apart : {r r′ : Record} {ls : List (List ℕ)} → Apart (s .batch) r r′ → Goes r s l ls → Goes r′ s l′ ls → ⊥
+  not-apart (pays-or-closes e) g g′ = not-closes e (g .fitting) (g′ .fitting) (aside numberField (λ k. omega arith) (λ q. omega (arith, g .typed, g′ .typed)))
+  not-apart opens-or-ends g g′ = not-ends (g .fitting) (g′ .fitting) (aside batchField (λ k. omega arith) (λ q. omega (arith, g .typed, g′ .typed)))
+  not-apart (begins-or-notes h) g g′ = not-noted l l′ h g g′
+
+pub one-record : {p : ℕ} {s : Checker} {r r′ : Record} {ls : List (List ℕ)} (l l′ : List ℕ)
+    → Differ p (recordIn l) (recordIn l′) → Goes r s l ls → Goes r′ s l′ ls → r ≡ r′
+one-record {s = s} {r = r} {r′ = r′} l l′ d g g′ = go (two (g .follows) (g′ .follows))
+  where
+    go : Two (s .batch) r r′ → r ≡ r′
+    go (one e) = e
+    go (apart a) = absurd (not-apart s l l′ d a g g′)
+    go (apart-turned a) = absurd (not-apart s l′ l (turned d) a g′ g)
