@@ -1,5 +1,6 @@
 pub mod Examples
 pub mod Calls
 pub mod Grammar
+pub mod Refusals
 pub mod Guarded
 pub mod laws

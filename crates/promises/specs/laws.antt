@@ -7,6 +7,7 @@ pub mod Shape
 pub mod Parse
 pub mod Build
 pub mod Accepted
+pub mod Refused
 pub mod Differ
 pub mod Records
 pub mod SameLine

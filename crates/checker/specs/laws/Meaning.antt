@@ -18,12 +18,16 @@ use Rattle.layout.specs.declared.Record.the-variants.{FileHeader, BatchHeader, 
 use Rattle.checker.specs.Order.{follows, after, suits, readAs}
 use Rattle.checker.specs.Line.{lineBytes, recordIn, lineIs, rulesAs, found, dueRules, typeRules, lineRules, rulesOfLine}
 use Rattle.checker.specs.Machine.{lineOf, next, moved, sound, stepped, answerTo, stepOf}
-use Rattle.checker.specs.Calls.{Breaks}
 use Rattle.checker.specs.declared.order.Due.{Due}
 use Rattle.checker.specs.declared.order.Due.the-variants.{Line, Nothing}
 use Rattle.checker.specs.declared.Checker.{Checker}
 use Rattle.checker.specs.declared.Stepped.{Stepped}
 use Rattle.checker.specs.laws.Listed.{line-listed, broken-listed}
+
+-- the line breaks this refusal's rule and none before it, and is the line that the refusal names
+pub record Breaks (s : Checker) (line : List ℕ) (r : Refusal) : Type 0 where
+  pub broken : Broken (rulesOfLine s line) (refusal (r .number) noLine (r .place))
+  pub numbered : r .line ≡ lineOf s
 
 -- a record is one of these
 abbrev pub Among : Record → List Record → Type 0

@@ -2,7 +2,7 @@
 use mathlib.Core.Path.{_≡_, refl, ap, _∙_, subst}
 use mathlib.Core.Logic.{_↔_}
 use mathlib.Core.Bool.{Bool, true, false, cond}
-use mathlib.Core.List.{List, [], _∷_}
+use mathlib.Core.List.{List, [], _∷_, _++_}
 use Prim.Native.Nat.{ℕ, suc, _+_, _≤_}
 use native.Mathlib.Omega.{arith}
 use lib.ListN.{length}
@@ -17,16 +17,28 @@ use Rattle.checker.specs.Totals.{add}
 use Rattle.checker.specs.Line.{recordIn, rulesOfLine}
 use Rattle.checker.specs.Machine.{start, lineOf, next, stepped, stepOf}
 use Rattle.checker.specs.File.{linesOf, unless, steps, endOf, outcome, finish, checkFile}
-use Rattle.checker.specs.Calls.{Reached, at-start, after-line, Through, here, further, Passed, Stopped, at-line, at-end}
+use Rattle.checker.specs.Calls.{Reached, at-start, after-line, Through, here, further}
 use Rattle.checker.specs.declared.totals.Totals.{Totals}
 use Rattle.checker.specs.declared.Checker.{Checker}
 use Rattle.checker.specs.declared.Stepped.{Stepped}
 use Rattle.checker.specs.declared.file.Outcome.{Outcome}
 use Rattle.checker.specs.declared.file.Outcome.the-variants.{Accepted, Refused}
 use Rattle.checker.specs.laws.Listed.{lastNumber, line-listed, broken-listed}
-use Rattle.checker.specs.laws.Meaning.{line-accepted, line-refused, accepted-moves}
+use Rattle.checker.specs.laws.Meaning.{Breaks, line-accepted, line-refused, accepted-moves}
 use Rattle.checker.specs.laws.Reached.{reached, end-never-guarded}
 use Rattle.checker.specs.laws.Runs.{steps-append}
+
+-- accepted: every line is, and the last is the file trailer
+pub record Passed (s : Checker) (ls : List (List ℕ)) (t : Totals) : Type 0 where
+  pub to : Checker
+  pub through : Through s ls to
+  pub at-end : ended (to .phase) ≡ true
+  pub counted : t ≡ to .closed
+
+-- refused: a line breaks that rule, and every line before it is accepted; or every line is, and the file trailer is missing
+pub data Stopped (s : Checker) (ls : List (List ℕ)) (r : Refusal) : Type 0 where
+  at-line : {t : Checker} (earlier later : List (List ℕ)) (l : List ℕ) → ls ≡ earlier ++ l ∷ later → Through s earlier t → Breaks t l r → Stopped s ls r
+  at-end : {t : Checker} → Through s ls t → ended (t .phase) ≡ false → r ≡ refusal 2 (lineOf t) 0 → Stopped s ls r
 
 -- lines, and then the end
 abbrev whole : Checker → List (List ℕ) → Outcome

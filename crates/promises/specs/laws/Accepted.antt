@@ -5,9 +5,8 @@ use mathlib.Core.List.{List}
 use Prim.Native.Nat.{ℕ}
 use Rattle.checker.specs.Machine.{start}
 use Rattle.checker.specs.File.{linesOf, checkFile}
-use Rattle.checker.specs.Calls.{Passed}
 use Rattle.checker.specs.laws.Runs.{lines-joined, lines-are}
-use Rattle.checker.specs.laws.Verdict.{accepted-file}
+use Rattle.checker.specs.laws.Verdict.{Passed, accepted-file}
 use Rattle.checker.specs.declared.totals.Totals.{Totals}
 use Rattle.checker.specs.declared.file.Outcome.the-variants.{Accepted}
 use Rattle.writer.specs.laws.Sequences.{through-lines}

@@ -28,8 +28,8 @@ use Rattle.checker.specs.Totals.{totals, none, add, batchesOf, paymentsOf, cent
 use Rattle.checker.specs.laws.Bounds.{counts-are}
 use Rattle.checker.specs.Line.{recordIn, mostBatches, mostPayments}
 use Rattle.checker.specs.Machine.{state, start, next, inBatch}
-use Rattle.checker.specs.Calls.{Reached, at-start, Through, here, Passed}
-use Rattle.checker.specs.laws.Verdict.{through-reached}
+use Rattle.checker.specs.Calls.{Reached, at-start, Through, here}
+use Rattle.checker.specs.laws.Verdict.{Passed, through-reached}
 use Rattle.checker.specs.declared.order.Phase.{Phase}
 use Rattle.checker.specs.declared.order.Phase.the-variants.{Headed, Paid, Noted, Closed}
 use Rattle.checker.specs.declared.totals.Totals.{Totals}

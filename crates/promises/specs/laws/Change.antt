@@ -16,9 +16,9 @@ use Rattle.layout.specs.declared.Record.the-variants.{FileHeader, SegmentJ}
 use Rattle.checker.specs.Line.{lineBytes, recordIn, lineIs}
 use Rattle.checker.specs.Machine.{start}
 use Rattle.checker.specs.File.{linesOf, checkFile}
-use Rattle.checker.specs.Calls.{at-start, left, Passed}
+use Rattle.checker.specs.Calls.{at-start, left}
 use Rattle.checker.specs.laws.Runs.{no-lines, next-line, lines-append}
-use Rattle.checker.specs.laws.Verdict.{accepted-file}
+use Rattle.checker.specs.laws.Verdict.{Passed, accepted-file}
 use Rattle.checker.specs.declared.order.Due.the-variants.{Line}
 use Rattle.checker.specs.declared.totals.Totals.{Totals}
 use Rattle.checker.specs.declared.Checker.{Checker}

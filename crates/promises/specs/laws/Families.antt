@@ -19,10 +19,10 @@ use Rattle.fields.specs.Values.{recordOf, readRecord}
 use Rattle.checker.specs.Line.{rulesOfLine}
 use Rattle.checker.specs.Machine.{lineOf, answerTo, stepOf}
 use Rattle.checker.specs.File.{linesOf, unless, steps, finish}
-use Rattle.checker.specs.Calls.{Reached, after-line, here, further, Stopped, at-line, at-end}
+use Rattle.checker.specs.Calls.{Reached, after-line, here, further}
 use Rattle.checker.specs.laws.Meaning.{line-accepted}
 use Rattle.checker.specs.laws.Reached.{reached, never-guarded}
-use Rattle.checker.specs.laws.Verdict.{refused-rest, through-line-no}
+use Rattle.checker.specs.laws.Verdict.{Stopped, at-line, at-end, refused-rest, through-line-no}
 use Rattle.checker.specs.declared.Checker.{Checker}
 use Rattle.checker.specs.declared.file.Outcome.{Outcome}
 use Rattle.checker.specs.declared.file.Outcome.the-variants as outcome
