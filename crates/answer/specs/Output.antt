@@ -21,3 +21,9 @@ written (Refused r) new out = out
 pub record Writes (rules : List Rule) (n : ℕ) (new out : List ℕ) (answer : Answer) (after : List ℕ) : Type 0 where
   pub answered : answer ≡ firstBroken (rules ++ room n out ∷ [])
   pub memory : after ≡ written answer new out
+
+-- bytes copied over others, as many as both have
+unfoldable pub over : List ℕ → List ℕ → List ℕ
+over [] out = out
+over (b ∷ bs) [] = []
+over (b ∷ bs) (x ∷ out) = b ∷ over bs out

@@ -4,9 +4,9 @@ use mathlib.Core.List.{List}
 use Prim.Native.Nat.{ℕ}
 use native.Mathlib.Omega.{arith}
 use lib.Dec.{T}
+use Rattle.layout.specs.inner.Lent.{kindOf, fillOf}
 use Rattle.layout.specs.Table.{Kind}
 use Rattle.layout.specs.Kinds.{asNumber, asBytes, asFixed, means}
-use Rattle.layout.specs.Lent.{kindOf, fillOf}
 use Rattle.layout.specs.inner.Steps.{mayBe}
 use Rattle.layout.specs.laws.Texts.{TextOf, Filled, a-number, its-text, a-string, filled}
 use Rattle.layout.specs.declared.kinds.Fill.{Fill}

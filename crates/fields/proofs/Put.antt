@@ -9,9 +9,10 @@ use lib.Dec.{T, eqb→eq}
 use lib.ListN.{length, getD, take, drop, length-append, length-drop, take-append-drop}
 use lib.Seq.{take-at, drop-at, drop-drop, length-take-le, slice, slice-cons, slice-empty, getD-drop}
 use Rattle.digits.specs.Digits.{places}
-use Rattle.layout.specs.Table.{Field, field, part, fieldsOf, recordBytes, tiles, none}
+use Rattle.answer.specs.Output.{over}
+use Rattle.layout.specs.inner.Lent.{kindOf, fieldCount}
+use Rattle.layout.specs.Table.{Field, field, part, fieldsOf, recordBytes, tiles, none, all}
 use Rattle.layout.specs.Kinds.{means}
-use Rattle.layout.specs.Lent.{over, all, kindOf, fieldCount}
 use Rattle.layout.specs.laws.Tiling.{tiled, ends, All}
 use Rattle.layout.specs.laws.Sound.{width, Sound, sounds}
 use Rattle.layout.specs.laws.Columns.{Stands, all-length}

@@ -7,9 +7,9 @@ use native.Mathlib.Numerals.{add-one}
 use native.Mathlib.Omega.{arith}
 use lib.ListN.{length, take, drop, set, replicate, length-set, take-append-drop}
 use lib.Seq.{slice, slice-cons, slice-empty, take-suc-set, drop-set-lt}
-use Rattle.layout.specs.Table.{Field, part, fieldsOf, none}
+use Rattle.layout.specs.inner.Lent.{kindOf, fieldCount}
+use Rattle.layout.specs.Table.{Field, part, fieldsOf, none, all}
 use Rattle.layout.specs.Kinds.{means}
-use Rattle.layout.specs.Lent.{all, kindOf, fieldCount}
 use Rattle.layout.specs.laws.Columns.{Stands, all-length}
 use Rattle.layout.specs.declared.Record.{Record}
 use Rattle.digits.specs.Digits.{places}

@@ -10,10 +10,10 @@ use Rattle.answer.specs.declared.Answer.the-variants.{Accepted, Refused}
 use Rattle.digits.specs.Numbers.{numberOf, numeral}
 use Rattle.digits.specs.declared.spelling.Number.{Number}
 use Rattle.digits.specs.declared.spelling.Number.the-variants.{Is, Not}
+use Rattle.answer.specs.Output.{over}
 use Rattle.layout.specs.Table.{Field, part, fieldsOf, recordBytes, none}
 use Rattle.layout.specs.Kinds.{Held, asNumber, asBytes, asFixed, means, blank}
 use Rattle.layout.specs.Record.{recordRules}
-use Rattle.layout.specs.Lent.{over}
 use Rattle.layout.specs.declared.Direction.{Direction}
 use Rattle.layout.specs.declared.Record.{Record}
 use Rattle.fields.specs.declared.Fields.{Fields}

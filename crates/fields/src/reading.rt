@@ -9,9 +9,9 @@ use layout::Fill;
 use layout::Record;
 ghost use mathlib.Core.Path.{_≡_};
 ghost use lib.ListN.{length};
+ghost use Rattle.layout.specs.inner.Lent.{kindOf};
 ghost use Rattle.layout.specs.Table.{recordBytes};
 ghost use Rattle.layout.specs.Kinds.{means};
-ghost use Rattle.layout.specs.Lent.{kindOf};
 ghost use Rattle.fields.specs.Values.{numberIn, fieldsIn, readRecord};
 
 // The number that a field's digits give; 0 where it is not held as one.

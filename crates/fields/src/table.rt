@@ -6,8 +6,8 @@ use layout::Record;
 ghost use mathlib.Core.Path.{_≡_};
 ghost use Prim.Native.Nat.{_+_, _<_};
 ghost use lib.ListN.{length};
+ghost use Rattle.layout.specs.inner.Lent.{fieldCount, startOf, Columns};
 ghost use Rattle.layout.specs.Table.{fieldsOf};
-ghost use Rattle.layout.specs.Lent.{fieldCount, startOf, Columns};
 ghost use Rattle.layout.specs.laws.Columns.{Stands};
 ghost use Rattle.fields.specs.Values.{isNumberAt};
 

@@ -13,10 +13,10 @@ ghost use Prim.Native.Nat.{_≤_};
 ghost use lib.Dec.{T as Holds};
 ghost use lib.ListN.{length, drop};
 ghost use Rattle.answer.specs.Output.{Writes};
+ghost use Rattle.layout.specs.inner.Lent.{kindOf, fixedText, Columns};
 ghost use Rattle.layout.specs.Table.{recordBytes};
 ghost use Rattle.layout.specs.Kinds.{means};
 ghost use Rattle.layout.specs.Record.{recordRules};
-ghost use Rattle.layout.specs.Lent.{kindOf, fixedText, Columns};
 ghost use Rattle.layout.specs.inner.Steps.{mayBe};
 ghost use Rattle.fields.specs.Values.{rendered, recordOf, laid};
 

@@ -11,9 +11,9 @@ use Rattle.answer.specs.laws.Order.{past, done}
 use Rattle.answer.specs.declared.Answer.{Answer}
 use Rattle.answer.specs.declared.Answer.the-variants.{Accepted}
 use Rattle.digits.specs.Digits.{allDigits}
+use Rattle.layout.specs.inner.Lent.{firstLetter, mark?, kindOf, markAt, fixedText, fixedBytes}
 use Rattle.layout.specs.Table.{Kind, T as Txt, RecordType, Segment}
 use Rattle.layout.specs.Kinds.{Part, means, wrong, isFixed, same, blank}
-use Rattle.layout.specs.Lent.{firstLetter, mark?, kindOf, markAt, fixedText, fixedBytes}
 use Rattle.layout.specs.inner.Steps.{mayBe, Looked, for-digits, for-text, tested, markLook, textLook}
 use Rattle.layout.specs.laws.Texts.{TextOf, blanks-there, mark-there}
 use Rattle.layout.specs.declared.looks.Look.{Look}

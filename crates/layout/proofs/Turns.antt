@@ -16,10 +16,10 @@ use Rattle.answer.specs.declared.Refusal.{Refusal}
 use Rattle.answer.specs.declared.Answer.the-variants.{Accepted, Refused}
 use Rattle.digits.specs.Digits.{digit?, leading, allDigits, places}
 use Rattle.digits.specs.laws.Strings.{leading-drop}
-use Rattle.layout.specs.Table.{none, typeField, segmentFields, marks}
+use Rattle.layout.specs.inner.Lent.{kindOf, whole?, fieldCount}
+use Rattle.layout.specs.Table.{none, typeField, segmentFields, marks, all}
 use Rattle.layout.specs.Kinds.{aPart, means, same}
 use Rattle.layout.specs.Record.{rulesOf}
-use Rattle.layout.specs.Lent.{all, kindOf, whole?, fieldCount}
 use Rattle.layout.specs.inner.Masks.{Right, Known}
 use Rattle.layout.specs.laws.Bytes.{same-turn, same-end}
 use Rattle.layout.specs.laws.Columns.{Stands, all-length, no-segment}

@@ -16,8 +16,7 @@ use Rattle.layout.specs.declared.Direction.the-variants.{Remittance, Ret
 
 -- as a number, as its bytes, or not at all: its content is fixed, at each width
 pub data Held : Type 0 where
-  asNumber : Held
-  asBytes : Held
+  asNumber asBytes : Held
   asFixed : (ℕ → List ℕ) → Held
 
 -- a field in a record: its first place, its bytes, the whole record and the direction

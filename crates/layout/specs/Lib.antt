@@ -2,6 +2,5 @@ pub mod Pairs
 pub mod Table
 pub mod Kinds
 pub mod Record
-pub mod Lent
 pub mod laws
 pub mod inner

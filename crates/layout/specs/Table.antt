@@ -10,22 +10,9 @@ use Rattle.layout.specs.declared.Record.the-variants.{FileHeader, BatchH
 -- N digits; Id digits of a CPF or CNPJ number; T text; F any; D a date; Time; K blanks; O blanks in a remittance; zeros; exact content;
 -- a domain; service and form; the barcode; the record's type and its segment
 pub data Kind : Type 0 where
-  N : Kind
-  Id : Kind
-  T : Kind
-  F : Kind
-  D : Kind
-  Time : Kind
-  K : Kind
-  O : Kind
-  Zeros : Kind
-  Exact : List ℕ → Kind
-  OneOf : List ℕ → Kind
-  Service : Kind
-  Form : Kind
-  Barcode : Kind
-  RecordType : ℕ → Kind
-  Segment : ℕ → Kind
+  N Id T F D Time K O Zeros Service Form Barcode : Kind
+  Exact OneOf : List ℕ → Kind
+  RecordType Segment : ℕ → Kind
 
 pub record Field : Type 0 where
   pub from : ℕ
@@ -214,6 +201,17 @@ fieldsOf BatchTrailer =
     line BatchTrailer
     ++ field 9 17 K ∷ batchRecords ∷ batchSum ∷ field 42 59 N ∷ field 60 65 N ∷ field 66 230 K ∷ field 231 240 O ∷ []
 fieldsOf FileTrailer = line FileTrailer ++ field 9 17 K ∷ fileBatches ∷ fileRecords ∷ field 30 35 N ∷ field 36 240 K ∷ []
+
+-- the whole table: the records one after the other
+abbrev pub records : List Record
+records = FileHeader ∷ BatchHeader ∷ SegmentA ∷ SegmentB ∷ SegmentJ ∷ SegmentJ52 ∷ SegmentZ ∷ BatchTrailer ∷ FileTrailer ∷ []
+
+unfoldable pub fieldsOfEach : List Record → List Field
+fieldsOfEach [] = []
+fieldsOfEach (r ∷ rs) = fieldsOf r ++ fieldsOfEach rs
+
+unfoldable pub all : List Field
+all = fieldsOfEach records
 
 -- ---- its rule
 

@@ -1,3 +1,4 @@
 -- What only private contracts speak of: nothing here has to be believed.
 pub mod Steps
 pub mod Masks
+pub mod Lent

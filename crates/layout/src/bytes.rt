@@ -4,8 +4,8 @@ use answer::numbers;
 ghost use mathlib.Core.Path.{_≡_};
 ghost use mathlib.Core.List.{_∷_, []};
 ghost use Rattle.answer.specs.Rules.{firstBroken};
+ghost use Rattle.answer.specs.Output.{over};
 ghost use Rattle.layout.specs.Record.{byteRule, allPrintable};
-ghost use Rattle.layout.specs.Lent.{over};
 
 const LOWEST: u8 = 32;
 

@@ -1,7 +1,7 @@
+ghost use Rattle.layout.specs.inner.Lent.{whole?, firstMark, lastMark, markAt, fillOf};
 // The kinds of field, by number, and what a field of each kind is filled with.
 ghost use mathlib.Core.Path.{_≡_};
 ghost use Prim.Native.Nat.{_≤_};
-ghost use Rattle.layout.specs.Lent.{whole?, firstMark, lastMark, markAt, fillOf};
 
 // The caller's number, the caller's text, or the byte string that begins here in the fixed text.
 pub enum Fill {

@@ -25,6 +25,7 @@ pub use table::Span;
 pub use table::TO;
 pub use table::entry_at;
 pub use table::fixed_text;
+pub use table::row_of;
 pub use table::span_of;
 ghost use mathlib.Core.Path.{_≡_};
 ghost use Rattle.answer.specs.Rules.{firstBroken};

@@ -1,3 +1,5 @@
+ghost use Rattle.layout.specs.Table.{code};
+ghost use Rattle.layout.specs.inner.Lent.{spanOf, inColumn, entryIn, fixedText};
 // The table as numbers: first place, last place and kind of each field, one record after the other,
 // and the fixed byte strings. Whoever walks fields binds them once and lends them down.
 use super::Record;
@@ -23,7 +25,6 @@ use super::kinds::ZEROS;
 use super::kinds::ZEROS_AT;
 ghost use mathlib.Core.Path.{_≡_};
 ghost use Prim.Native.Nat.{_<_};
-ghost use Rattle.layout.specs.Lent.{rowOf, spanOf, inColumn, entryIn, fixedText};
 
 pub const FIELDS: usize = 143;
 
@@ -512,9 +513,9 @@ pub struct Entry {
     pub kind: u8,
 }
 
-// The number of a record's row in START.
-fn row(which: Record) -> usize
-    ensures { λ r. ⌜ (r ≡ rowOf which) × (r < 9) ⌝ }
+// The number of a record, which is its row in START.
+pub fn row_of(which: Record) -> usize
+    ensures { λ r. ⌜ (r ≡ code which) × (r < 9) ⌝ }
 {
     match which {
         Record::FileHeader => 0,
@@ -533,7 +534,7 @@ fn row(which: Record) -> usize
 pub fn span_of(which: Record) -> Span
     ensures { λ r. ⌜ r ≡ spanOf which ⌝ }
 {
-    let n = row(which);
+    let n = row_of(which);
     Span {
         first: START[n],
         past: START[n + 1],

@@ -14,9 +14,8 @@ use Rattle.answer.specs.declared.Answer.the-variants.{Accepted, Refused}
 use Rattle.boleto.specs.Strings.{barcodeDigits, lineDigits, currencyPlace, barcodeCheck, lineCheck, barcodeOf, lineOf as digitLineOf}
 use Rattle.boleto.specs.Rules.{barcodeRules, lineRules}
 use Rattle.layout.specs.Pairs.{among}
-use Rattle.layout.specs.Table.{Field, recordBytes, typePlace, segmentPlace, bankField, batchField, numberField, boletoAmount, batchRecords, batchSum, fileRecords}
+use Rattle.layout.specs.Table.{Field, recordBytes, typePlace, segmentPlace, bankField, batchField, numberField, boletoAmount, batchRecords, batchSum, fileRecords, all}
 use Rattle.layout.specs.Record.{recordRules}
-use Rattle.layout.specs.Lent.{all}
 use Rattle.layout.specs.declared.Direction.{Direction}
 use Rattle.layout.specs.declared.Record.{Record}
 use Rattle.fields.specs.Values.{recordOf, readRecord, noFields}

@@ -37,26 +37,10 @@ pub(crate) struct TriedPayment {
 }
 
 // Kinds of record, told apart.
-fn code(which: Record) -> u8
-    ensures { λ r. ⌜ r ≡ code which ⌝ }
-{
-    match which {
-        Record::FileHeader => 0,
-        Record::BatchHeader => 1,
-        Record::SegmentA => 2,
-        Record::SegmentB => 3,
-        Record::SegmentJ => 4,
-        Record::SegmentJ52 => 5,
-        Record::SegmentZ => 6,
-        Record::BatchTrailer => 7,
-        Record::FileTrailer => 8,
-    }
-}
-
 fn is(which: Record, other: Record) -> bool
     ensures { λ r. ⌜ r ≡ eqb (code which) (code other) ⌝ }
 {
-    code(which) == code(other)
+    layout::row_of(which) == layout::row_of(other)
 }
 
 // Whether a record is the one that begins a payment, its second, or the third.

@@ -12,11 +12,11 @@ use lib.Seq.{getD-drop, take-at, drop-at, ext-getD}
 use Rattle.digits.specs.Digits.{place}
 use Rattle.digits.specs.laws.Strings.{part-getD}
 use Rattle.digits.specs.laws.Numerals.{length-numeral}
+use Rattle.layout.specs.inner.Lent.{spanOf}
 use Rattle.layout.specs.Table.{Field, part, fieldsOf, recordBytes, tiles, none}
 use Rattle.layout.specs.Kinds.{Held, asNumber, asBytes, asFixed}
 use Rattle.layout.specs.laws.Bytes.{length-places}
 use Rattle.layout.specs.laws.Tiling.{tiled, head, ends, covered, Inside, insides, All, at}
-use Rattle.layout.specs.Lent.{spanOf}
 use Rattle.layout.specs.laws.Columns.{first-is, past-is}
 use Rattle.layout.specs.declared.table.Span.{Span}
 use Rattle.layout.specs.laws.Sound.{width, fills, Sound, sounds}

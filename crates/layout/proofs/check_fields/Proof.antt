@@ -3,8 +3,7 @@ use mathlib.Core.Path.{refl, _∙_}
 use borrow.Author.Needs.{needs}
 use borrow.Author.Tests.{eq-eqb, ne-eqb}
 use Rattle.answer.specs.laws.Order.{past, here}
-use Rattle.layout.specs.Table.{fieldsOf}
-use Rattle.layout.specs.Lent.{fieldsOfEach, all}
+use Rattle.layout.specs.Table.{fieldsOf, fieldsOfEach, all}
 use Rattle.layout.proofs.check_fields.Statement.{statement}
 use Rattle.layout.proofs.check_fields.Tie as tie
 

@@ -3,9 +3,8 @@ use mathlib.Core.Path.{refl, sym, _∙_}
 use borrow.Author.Needs.{needs}
 use borrow.Author.Tests.{eq-eqb, ne-eqb}
 use Rattle.answer.specs.laws.Order.{past, here, one-then, first-append}
-use Rattle.layout.specs.Table.{fieldsOf}
+use Rattle.layout.specs.Table.{fieldsOf, fieldsOfEach, all}
 use Rattle.layout.specs.Record.{recordRules}
-use Rattle.layout.specs.Lent.{fieldsOfEach, all}
 use Rattle.layout.specs.laws.Columns.{all-fields}
 use Rattle.layout.proofs.check_record.Statement.{statement}
 use Rattle.layout.proofs.check_record.Tie as tie

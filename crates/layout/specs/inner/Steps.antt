@@ -9,9 +9,9 @@ use Rattle.answer.specs.Rules.{rule, firstBroken}
 use Rattle.answer.specs.declared.Answer.{Answer}
 use Rattle.answer.specs.declared.Answer.the-variants.{Accepted}
 use Rattle.digits.specs.Digits.{allDigits}
+use Rattle.layout.specs.inner.Lent.{mostBlanks, mostZeros, fixedText, fixedBytes, firstLetter, markAt}
 use Rattle.layout.specs.Table.{Kind, N, Id, T, F, D, Time, K, O, Zeros, Exact, OneOf, Service, Form, Barcode, RecordType, Segment, Field, segmentFields}
 use Rattle.layout.specs.Kinds.{Part, means, same, blank}
-use Rattle.layout.specs.Lent.{mostBlanks, mostZeros, fixedText, fixedBytes, firstLetter, markAt}
 use Rattle.layout.specs.declared.Record.{Record}
 use Rattle.layout.specs.declared.looks.Look.{Look}
 use Rattle.layout.specs.declared.looks.Look.the-variants.{Digits, Text, Tested}

@@ -14,10 +14,10 @@ use Rattle.digits.specs.Numbers.{numberOf}
 use Rattle.digits.specs.declared.spelling.Number.{Number}
 use Rattle.digits.specs.declared.spelling.Number.the-variants.{Not}
 use Rattle.calendar.specs.Calendar.{numberFits}
+use Rattle.answer.specs.Output.{over}
 use Rattle.layout.specs.Pairs.{Pairs, pairs, among, batchAmong, batchOf}
 use Rattle.layout.specs.Kinds.{same}
 use Rattle.layout.specs.Record.{printable, clean, allPrintable}
-use Rattle.layout.specs.Lent.{over}
 use Rattle.layout.specs.declared.Direction.{Direction}
 use Rattle.layout.specs.declared.pairs.Batch.the-variants.{Unknown}
 

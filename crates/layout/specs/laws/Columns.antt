@@ -10,8 +10,8 @@ use lib.Dec.{T, leb, leb→le}
 use lib.ListN.{length, getD, take, drop, length-take, drop-of-length-le, List·getD-map}
 use lib.Seq.{slice, getD-take, getD-drop, take-nil, take-take, drop-drop, take-all, take-length}
 use Rattle.digits.specs.laws.Tests.{both}
-use Rattle.layout.specs.Table.{Kind, Field, field, fieldsOf, recordBytes, none, typeField, segmentFields}
-use Rattle.layout.specs.Lent.{records, rowOf, fieldsOfEach, all, startOf, spanOf, fieldCount, inColumn, kindOf, Columns}
+use Rattle.layout.specs.inner.Lent.{startOf, spanOf, fieldCount, inColumn, kindOf, Columns}
+use Rattle.layout.specs.Table.{Kind, Field, field, fieldsOf, recordBytes, none, typeField, segmentFields, records, fieldsOfEach, all, code}
 use Rattle.layout.specs.inner.Steps.{mayBe, some, hasSegment}
 use Rattle.layout.specs.laws.Tiling.{Inside, insides, All, join, at}
 use Rattle.layout.specs.laws.Sound.{Sound, sounds}
@@ -28,7 +28,7 @@ spanIn column n = record { first = getD column n 0; past = getD column (n + 1) 0
 
 -- where a record's fields stand, and among them its type and its segment
 pub record Laid (r : Record) : Type 0 where
-  pub span : spanIn starts (rowOf r) ≡ spanOf r
+  pub span : spanIn starts (code r) ≡ spanOf r
   pub within : T (leb (startOf r + length (fieldsOf r)) fieldCount && leb (startOf r + 5) fieldCount)
   pub fields : slice (startOf r) (startOf r + length (fieldsOf r)) all ≡ fieldsOf r
   pub type : slice (startOf r + 2) (startOf r + 2 + 1) all ≡ typeField r ∷ []

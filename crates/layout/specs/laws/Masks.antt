@@ -17,10 +17,10 @@ use Rattle.answer.specs.declared.Answer.the-variants.{Accepted}
 use Rattle.digits.specs.Digits.{allDigits}
 use Rattle.digits.specs.laws.Strings.{tab, all-leading}
 use Rattle.digits.specs.laws.Tests.{every, every-at}
+use Rattle.layout.specs.inner.Lent.{bytesFrom, startOf, whole?, mark?, firstLetter, kindOf}
 use Rattle.layout.specs.Pairs.{among}
-use Rattle.layout.specs.Table.{Kind, N, Id, T as Text, F, D, Time, K, O, Zeros, Exact, OneOf, Service, Form, Barcode, RecordType, Segment, Field, fieldsOf, recordBytes, none, tiles}
+use Rattle.layout.specs.Table.{Kind, N, Id, T as Text, F, D, Time, K, O, Zeros, Exact, OneOf, Service, Form, Barcode, RecordType, Segment, Field, fieldsOf, recordBytes, none, tiles, all}
 use Rattle.layout.specs.Kinds.{aPart, means, same, oneOf, blank}
-use Rattle.layout.specs.Lent.{bytesFrom, all, startOf, whole?, mark?, firstLetter, kindOf}
 use Rattle.layout.specs.inner.Steps.{mayBe}
 use Rattle.layout.specs.inner.Masks.{maskOf, domainMask, highestIn, between, free, lowsOf, highsOf, within, Right}
 use Rattle.layout.specs.laws.Bytes.{and-left, and-right, same-self, same-true, length-places}

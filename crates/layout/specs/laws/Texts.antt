@@ -10,9 +10,9 @@ use borrow.Author.Tests.{leb-true}
 use lib.Dec.{T, leb, ltb, eqb, leb→le, eqb→eq}
 use lib.ListN.{length, take, drop, replicate, length-take, length-drop, List·getD-eq-default}
 use Rattle.digits.specs.laws.Tests.{every, every-at}
+use Rattle.layout.specs.inner.Lent.{kinds, firstMark, firstLetter, lastMark, mark?, kindOf, mostBlanks, mostZeros, texts, fixedText, fixedBytes, markAt, fillAs, fillOf}
 use Rattle.layout.specs.Table.{Kind, F, RecordType, Segment}
 use Rattle.layout.specs.Kinds.{asNumber, asBytes, asFixed, means, blank, run, text, same}
-use Rattle.layout.specs.Lent.{kinds, firstMark, firstLetter, lastMark, mark?, kindOf, mostBlanks, mostZeros, texts, fixedText, fixedBytes, markAt, fillAs, fillOf}
 use Rattle.layout.specs.inner.Steps.{mayBe}
 use Rattle.layout.specs.laws.Bytes.{and-left, and-right, same-true}
 use Rattle.layout.specs.declared.kinds.Fill.{Fill}

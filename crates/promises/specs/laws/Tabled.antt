@@ -19,9 +19,8 @@ use Rattle.digits.specs.laws.Strings.{leading-le}
 use Rattle.digits.specs.laws.Tests.{both}
 use Rattle.boleto.specs.Strings.{barcodeDigits, lineDigits}
 use Rattle.boleto.specs.Rules as boleto
-use Rattle.layout.specs.Table.{isOneOf, marks, fieldsOf, recordBytes}
+use Rattle.layout.specs.Table.{isOneOf, marks, fieldsOf, recordBytes, all, fieldsOfEach}
 use Rattle.layout.specs.Record.{rulesOf, byteRule, clean, recordRules}
-use Rattle.layout.specs.Lent.{all, fieldsOfEach}
 use Rattle.layout.specs.laws.Bytes.{clean-le}
 use Rattle.layout.specs.declared.Direction.{Direction}
 use Rattle.layout.specs.declared.Direction.the-variants.{Remittance, Return}

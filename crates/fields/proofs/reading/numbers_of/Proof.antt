@@ -5,8 +5,8 @@ use native.Mathlib.Nat.{sub-self}
 use borrow.Author.Needs.{needs}
 use lib.ListN.{length, length-set}
 use lib.Seq.{slice}
-use Rattle.layout.specs.Table.{fieldsOf}
-use Rattle.layout.specs.Lent.{fieldsOfEach, all, fieldCount}
+use Rattle.layout.specs.inner.Lent.{fieldCount}
+use Rattle.layout.specs.Table.{fieldsOf, fieldsOfEach, all}
 use Rattle.layout.specs.laws.Columns.{laid, first-is, past-is, in-order, in-table}
 use Rattle.fields.specs.Values.{mostFields}
 use Rattle.fields.specs.laws.Parts.{few, narrow}

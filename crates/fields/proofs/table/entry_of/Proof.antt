@@ -3,8 +3,8 @@ use mathlib.Core.Path.{refl}
 use Prim.Native.Nat.{_+_, _<_}
 use native.Mathlib.Omega.{arith}
 use borrow.Author.Needs.{needs}
-use Rattle.layout.specs.Table.{fieldsOf}
-use Rattle.layout.specs.Lent.{fieldsOfEach, all, fieldCount}
+use Rattle.layout.specs.inner.Lent.{fieldCount}
+use Rattle.layout.specs.Table.{fieldsOf, fieldsOfEach, all}
 use Rattle.layout.specs.laws.Columns.{first-is, past-is, in-table}
 use Rattle.fields.proofs.table.entry_of.Statement.{statement}
 use Rattle.fields.proofs.table.entry_of.Tie as tie

@@ -2,8 +2,7 @@
 use mathlib.Core.Path.{refl}
 use borrow.Author.Needs.{needs}
 use borrow.Author.Tests.{le-leb, lt-leb}
-use Rattle.layout.specs.Table.{fieldsOf}
-use Rattle.layout.specs.Lent.{fieldsOfEach, all}
+use Rattle.layout.specs.Table.{fieldsOf, fieldsOfEach, all}
 use Rattle.fields.proofs.writing.put_record.Statement.{statement}
 use Rattle.fields.proofs.writing.put_record.Tie as tie
 

@@ -6,8 +6,8 @@ use native.Mathlib.Omega.{arith}
 use borrow.Author.Needs.{needs}
 use lib.ListN.{length, drop, length-map}
 use lib.Seq.{slice}
-use Rattle.layout.specs.Table.{recordBytes}
-use Rattle.layout.specs.Lent.{all, fieldCount}
+use Rattle.layout.specs.inner.Lent.{fieldCount}
+use Rattle.layout.specs.Table.{recordBytes, all}
 use Rattle.layout.specs.laws.Bytes.{length-places}
 use Rattle.layout.specs.laws.Columns.{laid, first-is, past-is, in-order, in-table}
 use Rattle.fields.specs.Values.{mostFields, recordOf}

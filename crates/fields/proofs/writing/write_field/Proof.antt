@@ -4,8 +4,8 @@ use Prim.Native.Nat.{_+_, _≤_}
 use native.Mathlib.Omega.{arith}
 use borrow.Author.Needs.{needs}
 use lib.ListN.{length}
+use Rattle.layout.specs.inner.Lent.{kindOf, fixedBytes}
 use Rattle.layout.specs.Kinds.{Held}
-use Rattle.layout.specs.Lent.{kindOf, fixedBytes}
 use Rattle.layout.specs.laws.Bytes.{over-all}
 use Rattle.layout.specs.laws.Texts.{fixed-length, text-is, text-length}
 use Rattle.fields.specs.Values.{rendered}

@@ -5,9 +5,8 @@ use Prim.Native.Nat.{ℕ}
 use borrow.Author.Needs.{needs}
 use Rattle.answer.specs.Rules.{firstBroken}
 use Rattle.answer.specs.laws.Frame.{Answers, answers, keeps, input-kept, has-room, writes}
-use Rattle.layout.specs.Table.{fieldsOf, recordBytes}
+use Rattle.layout.specs.Table.{fieldsOf, recordBytes, fieldsOfEach, all}
 use Rattle.layout.specs.Record.{recordRules}
-use Rattle.layout.specs.Lent.{fieldsOfEach, all}
 use Rattle.fields.specs.Values.{recordOf}
 use Rattle.fields.specs.laws.Kept.{right-length}
 use Rattle.fields.proofs.writing.write_record.Statement.{statement}

@@ -5,7 +5,7 @@ use Prim.Native.Nat.{_-_, _≤_}
 use native.Mathlib.Numerals.{add-one}
 use borrow.Author.Needs.{needs}
 use lib.ListN.{length, take, drop, length-set}
-use Rattle.layout.specs.Lent.{over}
+use Rattle.answer.specs.Output.{over}
 use Rattle.layout.specs.laws.Bytes.{over-turn, over-end-text, over-end-out}
 use Rattle.layout.proofs.bytes.copy.Statement.{statement}
 use Rattle.layout.proofs.bytes.copy.Tie as tie

@@ -1,6 +1,7 @@
 -- `layout::table::fixed_text` meets its contract: antt computes it. Assumes nothing.
 use borrow.Author.Needs.{needs}
-use Rattle.layout.specs.Lent.{over, texts, fixedText}
+use Rattle.answer.specs.Output.{over}
+use Rattle.layout.specs.inner.Lent.{texts, fixedText}
 use Rattle.layout.proofs.table.fixed_text.Statement.{statement}
 use Rattle.layout.proofs.table.fixed_text.Tie as tie
 

@@ -14,9 +14,10 @@ use lib.Seq.{slice}
 use Rattle.answer.specs.Rules.{Rule, firstBroken}
 use Rattle.answer.specs.declared.Answer.the-variants.{Accepted}
 use Rattle.digits.specs.Digits.{leading, places}
+use Rattle.layout.specs.Table.{all}
+use Rattle.layout.specs.inner.Lent.{kindOf, whole?, fixedText, fixedBytes}
 use Rattle.layout.specs.Kinds.{aPart, means, same}
 use Rattle.layout.specs.Record.{rulesOf}
-use Rattle.layout.specs.Lent.{all, kindOf, whole?, fixedText, fixedBytes}
 use Rattle.layout.specs.laws.Bytes.{and-left, and-right, length-places}
 use Rattle.layout.specs.laws.Texts.{fixed-length, text-is, text-length}
 use Rattle.layout.specs.declared.Direction.{Direction}

@@ -4,7 +4,7 @@ use Rattle.writer.proofs.payments.is.Statement.{statement}
 use Rattle.writer.proofs.payments.is.Tie as tie
 
 returns : tie.Need-returns
-returns c = rw (c .before .code .ensures, c .code2 .ensures)
+returns c = rw (c .before .row-of .ensures .0, c .row-of2 .ensures .0)
 
 pub is-spec : {M : Type 1} → statement M
 is-spec =

@@ -6,7 +6,7 @@ use Prim.Native.Nat.{ℕ, zero, suc, _+_, _-_}
 use lib.Dec.{leb, ltb}
 use lib.ListN.{length, getD, take, replicate}
 use Rattle.digits.specs.Digits.{digitByte}
-use Rattle.layout.specs.Table.{Kind, N, Id, T, F, D, Time, K, O, Zeros, Service, Form, Barcode, RecordType, Segment, Field, fieldsOf, zeroOneTwo, zeroNine, oneTwo, exactC, exact09, exact52}
+use Rattle.layout.specs.Table.{Kind, N, Id, T, F, D, Time, K, O, Zeros, Service, Form, Barcode, RecordType, Segment, Field, fieldsOf, zeroOneTwo, zeroNine, oneTwo, exactC, exact09, exact52, code, records, fieldsOfEach, all}
 use Rattle.layout.specs.Kinds.{Held, asNumber, asBytes, asFixed, means, blank}
 use Rattle.layout.specs.declared.kinds.Fill.{Fill}
 use Rattle.layout.specs.declared.kinds.Fill.the-variants.{Number, Text, Fixed}
@@ -15,38 +15,11 @@ use Rattle.layout.specs.declared.table.Span.{Span}
 use Rattle.layout.specs.declared.Record.{Record}
 use Rattle.layout.specs.declared.Record.the-variants.{FileHeader, BatchHeader, SegmentA, SegmentB, SegmentJ, SegmentJ52, SegmentZ, BatchTrailer, FileTrailer}
 
--- bytes copied over others, as many as both have
-unfoldable pub over : List ℕ → List ℕ → List ℕ
-over [] out = out
-over (b ∷ bs) [] = []
-over (b ∷ bs) (x ∷ out) = b ∷ over bs out
-
 -- ---- the records one after the other
-
-abbrev pub records : List Record
-records = FileHeader ∷ BatchHeader ∷ SegmentA ∷ SegmentB ∷ SegmentJ ∷ SegmentJ52 ∷ SegmentZ ∷ BatchTrailer ∷ FileTrailer ∷ []
-
-abbrev pub rowOf : Record → ℕ
-rowOf FileHeader = 0
-rowOf BatchHeader = 1
-rowOf SegmentA = 2
-rowOf SegmentB = 3
-rowOf SegmentJ = 4
-rowOf SegmentJ52 = 5
-rowOf SegmentZ = 6
-rowOf BatchTrailer = 7
-rowOf FileTrailer = 8
-
-unfoldable pub fieldsOfEach : List Record → List Field
-fieldsOfEach [] = []
-fieldsOfEach (r ∷ rs) = fieldsOf r ++ fieldsOfEach rs
-
-unfoldable pub all : List Field
-all = fieldsOfEach records
 
 -- where a record's fields begin, and where they end
 unfoldable pub startOf : Record → ℕ
-startOf r = length (fieldsOfEach (take (rowOf r) records))
+startOf r = length (fieldsOfEach (take (code r) records))
 
 unfoldable pub spanOf : Record → Span
 spanOf r = record { first = startOf r; past = startOf r + length (fieldsOf r) }
