@@ -4,7 +4,7 @@ use mathlib.Core.List.{List, [], _∷_}
 use Prim.Native.Nat.{ℕ, zero, suc, _+_, _-_}
 use lib.Dec.{eqb}
 use lib.ListN.{take}
-use Rattle.calendar.specs.Calendar.{date, firstYear, leap, months, exists}
+use Rattle.calendar.specs.Calendar.{date, firstYear, months, exists}
 use Rattle.calendar.specs.declared.Date.{Date}
 
 abbrev pub total : List ℕ → ℕ

@@ -65,8 +65,8 @@ impl Checker {
             dir: Direction::Remittance,
             batch: Batch::Unknown,
             bank: 0,
-            closed: Totals::of(0, 0, 0, 0),
-            current: Totals::of(0, 0, 0, 0),
+            closed: Totals::none(),
+            current: Totals::none(),
         }
     }
 

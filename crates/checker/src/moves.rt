@@ -100,7 +100,7 @@ impl Checker {
         let closed = self.closed;
         let current = self.current;
         let all = closed.plus(current.plus(counted(which, rec)));
-        self.behind(which, Batch::Unknown, all, Totals::of(0, 0, 0, 0))
+        self.behind(which, Batch::Unknown, all, Totals::none())
     }
 
     fn ended(self, rec: &[u8]) -> Checker

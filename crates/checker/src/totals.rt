@@ -8,7 +8,7 @@ ghost use Prim.Native.Nat.{_+_, _-_, _≤_, _<_, _^_};
 ghost use lib.ListN.{length, take, drop};
 ghost use Rattle.digits.specs.Numbers.{value};
 ghost use Rattle.layout.specs.Table.{recordBytes};
-ghost use Rattle.checker.specs.Totals.{totals, add, batchesOf, paymentsOf, centsOf, counts, amountDigits};
+ghost use Rattle.checker.specs.Totals.{totals, none, add, batchesOf, paymentsOf, centsOf, counts, amountDigits};
 ghost use Rattle.checker.specs.inner.Steps.{FitSum};
 
 pub struct Totals {
@@ -30,15 +30,21 @@ pub(crate) fn amount(rec: &[u8], place: usize) -> u64
 }
 
 impl Totals {
-    pub(crate) fn of(batches: u64, records: u64, payments: u64, cents: u64) -> Totals
-        ensures { λ r. ⌜ r ≡ totals batches records payments cents ⌝ }
+    pub(crate) fn of(batches: u64, records: RecordCount, payments: u64, cents: Cents) -> Totals
+        ensures { λ r. ⌜ r ≡ totals batches (records .0) payments (cents .0) ⌝ }
     {
         Totals {
             batches,
-            records: RecordCount(records),
+            records,
             payments,
-            cents: Cents(cents),
+            cents,
         }
+    }
+
+    pub(crate) fn none() -> Totals
+        ensures { λ r. ⌜ r ≡ none ⌝ }
+    {
+        Totals::of(0, RecordCount(0), 0, Cents(0))
     }
 
     pub(crate) fn plus(self, more: Totals) -> Totals
@@ -47,9 +53,9 @@ impl Totals {
     {
         Totals::of(
             self.batches + more.batches,
-            self.records.0 + more.records.0,
+            RecordCount(self.records.0 + more.records.0),
             self.payments + more.payments,
-            self.cents.0 + more.cents.0,
+            Cents(self.cents.0 + more.cents.0),
         )
     }
 }
@@ -88,20 +94,20 @@ pub(crate) fn payments_of(which: Record) -> u64
 }
 
 // The amount of a payment stands in its first record.
-fn cents_of(which: Record, rec: &[u8]) -> u64
+fn cents_of(which: Record, rec: &[u8]) -> Cents
     requires { ⌜ length (now rec) ≡ recordBytes ⌝ }
-    ensures { λ r. ⌜ r ≡ centsOf which (now (rec .entry)) ⌝ }
+    ensures { λ r. ⌜ r .0 ≡ centsOf which (now (rec .entry)) ⌝ }
 {
     match which {
-        Record::FileHeader => 0,
-        Record::BatchHeader => 0,
-        Record::SegmentA => amount(rec, places::CREDIT_AMOUNT),
-        Record::SegmentB => 0,
-        Record::SegmentJ => amount(rec, places::BOLETO_AMOUNT),
-        Record::SegmentJ52 => 0,
-        Record::SegmentZ => 0,
-        Record::BatchTrailer => 0,
-        Record::FileTrailer => 0,
+        Record::FileHeader => Cents(0),
+        Record::BatchHeader => Cents(0),
+        Record::SegmentA => Cents(amount(rec, places::CREDIT_AMOUNT)),
+        Record::SegmentB => Cents(0),
+        Record::SegmentJ => Cents(amount(rec, places::BOLETO_AMOUNT)),
+        Record::SegmentJ52 => Cents(0),
+        Record::SegmentZ => Cents(0),
+        Record::BatchTrailer => Cents(0),
+        Record::FileTrailer => Cents(0),
     }
 }
 
@@ -112,7 +118,7 @@ pub(crate) fn counted(which: Record, rec: &[u8]) -> Totals
 {
     Totals::of(
         batches_of(which),
-        1,
+        RecordCount(1),
         payments_of(which),
         cents_of(which, rec),
     )

@@ -15,4 +15,5 @@ pub mod SameBoleto
 pub mod Behind
 pub mod NextLine
 pub mod OtherRecord
+pub mod Listed
 pub mod Change

@@ -5,6 +5,7 @@ use super::records::put_line;
 use super::records::try_record;
 use answer::Answer;
 use answer::Cents;
+use answer::RecordCount;
 use answer::numbers;
 use checker::Checker;
 use checker::LINE_BYTES;
@@ -74,19 +75,19 @@ fn notes(which: Record, dir: Direction) -> bool
 }
 
 // The amount of a payment stands in its first record.
-fn amount_of(which: Record, v: Fields) -> u64
-    ensures { λ r. ⌜ r ≡ amountOf which v ⌝ }
+fn amount_of(which: Record, v: Fields) -> Cents
+    ensures { λ r. ⌜ r .0 ≡ amountOf which v ⌝ }
 {
     match which {
-        Record::FileHeader => 0,
-        Record::BatchHeader => 0,
-        Record::SegmentA => v.number_at(names::A_AMOUNT),
-        Record::SegmentB => 0,
-        Record::SegmentJ => v.number_at(names::J_AMOUNT),
-        Record::SegmentJ52 => 0,
-        Record::SegmentZ => 0,
-        Record::BatchTrailer => 0,
-        Record::FileTrailer => 0,
+        Record::FileHeader => Cents(0),
+        Record::BatchHeader => Cents(0),
+        Record::SegmentA => Cents(v.number_at(names::A_AMOUNT)),
+        Record::SegmentB => Cents(0),
+        Record::SegmentJ => Cents(v.number_at(names::J_AMOUNT)),
+        Record::SegmentJ52 => Cents(0),
+        Record::SegmentZ => Cents(0),
+        Record::BatchTrailer => Cents(0),
+        Record::FileTrailer => Cents(0),
     }
 }
 
@@ -199,16 +200,21 @@ pub(crate) fn put_payment(p: Payment, a: Fields, b: Fields, c: Fields, part: &mu
 }
 
 // A payment's records, and the bytes of their lines.
-pub(crate) fn count_of(p: Payment) -> u64
-    ensures { λ r. ⌜ (r ≡ length (recordsIn p)) × (r ≤ mostDetails) ⌝ }
+pub(crate) fn count_of(p: Payment) -> RecordCount
+    ensures { λ r. ⌜ (r .0 ≡ length (recordsIn p)) × (r .0 ≤ mostDetails) ⌝ }
 {
-    if p.noted { 3 } else { 2 }
+    if p.noted {
+        RecordCount(3)
+    } else {
+        RecordCount(2)
+    }
 }
 
 pub(crate) fn size_of(p: Payment) -> usize
     ensures { λ r. ⌜ r ≡ size (length (recordsIn p)) ⌝ }
 {
-    LINE_BYTES * (count_of(p) as usize)
+    let records = count_of(p);
+    LINE_BYTES * (records.0 as usize)
 }
 
 // The sum of all payments so far, with this one. What was paid so far fits 64 bits; the amount may be
@@ -221,6 +227,6 @@ pub(crate) fn check_sum(m: Checker, p: Payment) -> Answer
     let which = first.which;
     let v = first.fields;
     let paid = Cents(m.closed().cents.0 + m.current().cents.0);
-    let fits = paid.fit_a_file(Cents(amount_of(which, v)));
+    let fits = paid.fit_a_file(amount_of(which, v));
     Answer::test(numbers::FILE_SUM, 0, fits)
 }

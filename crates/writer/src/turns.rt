@@ -107,9 +107,9 @@ pub(crate) fn batch_limits(m: Checker) -> Answer
 }
 
 // What a payment of so many records asks beyond its turn.
-pub(crate) fn payment_limits(m: Checker, details: u64) -> Answer
-    requires { ⌜ details ≤ mostDetails ⌝ }
-    ensures { λ r. ⌜ r ≡ firstBroken (paymentLimits details m) ⌝ }
+pub(crate) fn payment_limits(m: Checker, details: RecordCount) -> Answer
+    requires { ⌜ details .0 ≤ mostDetails ⌝ }
+    ensures { λ r. ⌜ r ≡ firstBroken (paymentLimits (details .0) m) ⌝ }
 {
     let few = Answer::test(
         numbers::TOO_MANY,
@@ -119,7 +119,7 @@ pub(crate) fn payment_limits(m: Checker, details: u64) -> Answer
     few.and_then(Answer::test(
         numbers::TOO_LONG,
         0,
-        fits_file(m, RecordCount(details + TRAILERS)),
+        fits_file(m, RecordCount(details.0 + TRAILERS)),
     ))
 }
 

@@ -13,7 +13,7 @@ plus-requires-2 : tie.Need-plus-requires-2
 plus-requires-2 c κs = rw (c .plus .ensures, c .before .counted .ensures) (room (c .before .before .before .before .before .pre .1) BatchTrailer [] .at-end)
 
 returns : tie.Need-returns
-returns c = rw (c .behind .ensures, c .before .of .ensures, c .before .before .plus2 .ensures, c .before .before .before .plus .ensures, c .before .before .before .before .counted .ensures)
+returns c = rw (c .behind .ensures, c .before .none .ensures, c .before .before .plus2 .ensures, c .before .before .before .plus .ensures, c .before .before .before .before .counted .ensures)
 
 pub closed-batch-spec : {M : Type 1} → statement M
 closed-batch-spec =

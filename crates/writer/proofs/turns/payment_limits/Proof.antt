@@ -8,7 +8,9 @@ use Rattle.writer.proofs.turns.payment_limits.Tie as tie
 
 returns : tie.Need-returns
 returns c =
-    ahead (c .and-then .ensures) _ _ (c .before .before .before .test .ensures ∙ rw (c .before .before .before .before .before .current .ensures, below)) (c .before .test2 .ensures ∙ rw (c .before .before .fits-file .ensures))
+    ahead (c .and-then .ensures) _ _
+    (c .before .before .before .before .test .ensures ∙ rw (c .before .before .before .before .before .before .current .ensures, below))
+    (c .before .test2 .ensures ∙ rw (c .before .before .fits-file .ensures))
 
 pub payment-limits-spec : {M : Type 1} → statement M
 payment-limits-spec =
