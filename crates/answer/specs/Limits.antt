@@ -5,6 +5,6 @@ use Prim.Native.Nat.{ℕ, _^_}
 abbrev pub fileCents : ℕ
 fileCents = 10 ^ 18
 
--- a file has at most this many records
-abbrev pub fileRecords : ℕ
-fileRecords = 999999
+-- a file that is written has at most this many records; the reader's trailer has six digits for them
+abbrev pub mostRecords : ℕ
+mostRecords = 999999

@@ -6,7 +6,7 @@ ghost use mathlib.Core.Path.{_≡_};
 ghost use mathlib.Core.List.{_∷_, []};
 ghost use Prim.Native.Nat.{_+_};
 ghost use lib.Dec.{leb, ltb};
-ghost use Rattle.answer.specs.Limits.{fileCents, fileRecords};
+ghost use Rattle.answer.specs.Limits.{fileCents, mostRecords};
 ghost use Rattle.answer.specs.Output.{room};
 ghost use Rattle.answer.specs.Rules.{rule, refusedAs, firstBroken, andThen, onLine};
 
@@ -61,7 +61,7 @@ impl RecordCount {
 
     // Whether a file that has these may have `more` (number 25).
     pub fn fit_a_file(self, more: RecordCount) -> bool
-        ensures { λ r. ⌜ r ≡ leb (self .0 + more .0) fileRecords ⌝ }
+        ensures { λ r. ⌜ r ≡ leb (self .0 + more .0) mostRecords ⌝ }
     {
         self.stay_within(more, FILE_RECORDS)
     }

@@ -85,11 +85,11 @@ module _ (d : Direction) (rec : List ℕ) (l : length rec ≡ recordBytes) where
   unfolding rulesOf firstBroken
   segment-rule FileHeader = refl
   segment-rule BatchHeader = refl
-  segment-rule SegmentA = letter-rule 65
-  segment-rule SegmentB = letter-rule 66
-  segment-rule SegmentJ = letter-rule 74
-  segment-rule SegmentJ52 = letter-rule 74
-  segment-rule SegmentZ = letter-rule 90
+  segment-rule SegmentA = letter-rule _
+  segment-rule SegmentB = letter-rule _
+  segment-rule SegmentJ = letter-rule _
+  segment-rule SegmentJ52 = letter-rule _
+  segment-rule SegmentZ = letter-rule _
   segment-rule BatchTrailer = refl
   segment-rule FileTrailer = refl
 

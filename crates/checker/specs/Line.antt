@@ -82,11 +82,21 @@ centsFit rec =
 abbrev pub amountFits : List ℕ → Bool
 amountFits rec = eqb (cents boletoAmount rec + cents discountField rec) (cents nominalField rec + cents fineField rec)
 
+-- where general check, factor and cents of the barcode stand in a J
+abbrev pub generalPlace : ℕ
+generalPlace = 22
+
+abbrev pub factorPlace : ℕ
+factorPlace = 23
+
+abbrev pub centsPlace : ℕ
+centsPlace = 27
+
 unfoldable pub boletoRules : List ℕ → List Rule
 boletoRules rec =
-    rule 16 22 (generalFits (part barcodeField rec))
-    ∷ rule 17 23 (dueFits rec)
-    ∷ rule 18 27 (centsFit rec)
+    rule 16 generalPlace (generalFits (part barcodeField rec))
+    ∷ rule 17 factorPlace (dueFits rec)
+    ∷ rule 18 centsPlace (centsFit rec)
     ∷ rule 19 (boletoAmount .from) (amountFits rec)
     ∷ []
 
@@ -148,10 +158,19 @@ rulesAs FileTrailer s rec =
 abbrev pub lineBytes : ℕ
 lineBytes = 242
 
+abbrev pub carriageReturn : ℕ
+carriageReturn = 13
+
+abbrev pub lineFeed : ℕ
+lineFeed = 10
+
+abbrev pub lineFrom : List ℕ → List ℕ
+lineFrom rec = rec ++ carriageReturn ∷ lineFeed ∷ []
+
 abbrev pub recordIn : List ℕ → List ℕ
 recordIn line = take recordBytes line
 
--- CR, 13, and LF, 10, at their places
+-- CR and LF at their places
 abbrev pub endsWith : ℕ → ℕ → List ℕ → Rule
 endsWith p byte line = rule 5 p (eqb (place p line) byte)
 
@@ -172,8 +191,8 @@ typeRules s rec = rule 6 typePlace (found (lineIs s rec)) ∷ dueRules (lineIs s
 unfoldable pub lineRules : Checker → List ℕ → List Rule
 lineRules s line =
     byteRule (recordIn line)
-    ∷ endsWith 241 13 line
-    ∷ endsWith 242 10 line
+    ∷ endsWith (suc recordBytes) carriageReturn line
+    ∷ endsWith lineBytes lineFeed line
     ∷ typeRules s (recordIn line)
 
 unfoldable pub rulesOfLine : Checker → List ℕ → List Rule

@@ -70,8 +70,11 @@ moved Nothing s rec = s
 -- ---- states that no run produces
 
 -- a payment has at most three records
+abbrev pub mostDetails : ℕ
+mostDetails = 3
+
 abbrev pub batchRecordsMost : ℕ
-batchRecordsMost = 1 + 3 * mostPayments
+batchRecordsMost = 1 + mostDetails * mostPayments
 
 abbrev pub batchCentsMost : ℕ
 batchCentsMost = mostPayments * 10 ^ amountDigits

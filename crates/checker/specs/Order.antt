@@ -4,7 +4,7 @@ use mathlib.Core.List.{List, [], _∷_, _++_}
 use Prim.Native.Nat.{ℕ}
 use lib.Dec.{eqb}
 use lib.ListN.{take, drop}
-use Rattle.layout.specs.Table.{isOneOf, typeOf}
+use Rattle.layout.specs.Table.{isOneOf, typeOf, letterZ}
 use Rattle.layout.specs.declared.Direction.{Direction}
 use Rattle.layout.specs.declared.Direction.the-variants.{Remittance, Return}
 use Rattle.layout.specs.declared.Record.{Record}
@@ -62,12 +62,12 @@ ended Noted = false
 ended Closed = false
 ended Ended = true
 
--- Z may be left out: it alone is known by its letter, 90; every other detail by its place in the payment
+-- Z may be left out: it alone is known by its letter; every other detail by its place in the payment
 abbrev pub optional : Record → Bool
 optional r = isOneOf r (SegmentZ ∷ [])
 
 abbrev pub suits : ℕ → ℕ → Record → Bool
-suits type segment r = (not (optional r) || eqb segment 90) && eqb type (typeOf r)
+suits type segment r = (not (optional r) || eqb segment letterZ) && eqb type (typeOf r)
 
 -- what a line of this type and segment is read as, of the lines that may follow
 abbrev pub readAs : ℕ → ℕ → List Record → Due

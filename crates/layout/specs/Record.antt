@@ -46,6 +46,6 @@ firstRules r d rec = rule 1 0 (eqb (length rec) recordBytes) ∷ byteRule rec �
 unfoldable pub recordRules : Record → Direction → List ℕ → List Rule
 recordRules r d rec = firstRules r d rec ++ rulesOf (fieldsOf r) d rec
 
--- the fields of a record from one index up to another, of a record of the right length
+-- the fields of a record from one index, counted from 0, up to another, of a record of the right length
 abbrev pub someRules : Record → Direction → ℕ → ℕ → List ℕ → List Rule
 someRules r d first past rec = rule 1 0 (eqb (length rec) recordBytes) ∷ rulesOf (slice first past (fieldsOf r)) d rec

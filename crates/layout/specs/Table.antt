@@ -64,7 +64,11 @@ typeField r = field typePlace typePlace (RecordType (typeOf r))
 abbrev pub segmentPlace : ℕ
 segmentPlace = 14
 
--- the letter of a detail: A 65, B 66, J 74, Z 90
+-- Z is known by its letter
+abbrev pub letterZ : ℕ
+letterZ = 90
+
+-- the letter of a detail: A 65, B 66, J 74, Z
 abbrev pub segmentField : ℕ → Field
 segmentField letter = field segmentPlace segmentPlace (Segment letter)
 
@@ -75,7 +79,7 @@ segmentFields SegmentA = segmentField 65 ∷ []
 segmentFields SegmentB = segmentField 66 ∷ []
 segmentFields SegmentJ = segmentField 74 ∷ []
 segmentFields SegmentJ52 = segmentField 74 ∷ []
-segmentFields SegmentZ = segmentField 90 ∷ []
+segmentFields SegmentZ = segmentField letterZ ∷ []
 segmentFields BatchTrailer = []
 segmentFields FileTrailer = []
 

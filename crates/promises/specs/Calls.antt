@@ -20,7 +20,7 @@ use Rattle.layout.specs.declared.Direction.{Direction}
 use Rattle.layout.specs.declared.Record.{Record}
 use Rattle.fields.specs.Values.{recordOf, readRecord, noFields}
 use Rattle.fields.specs.declared.Fields.{Fields}
-use Rattle.checker.specs.Line.{lineBytes}
+use Rattle.checker.specs.Line.{lineBytes, generalPlace, factorPlace, centsPlace}
 use Rattle.checker.specs.Machine.{lineOf, stepOf}
 use Rattle.checker.specs.File.{linesOf, run, finish}
 use Rattle.checker.specs.Calls.{Through}
@@ -48,7 +48,7 @@ pub record Row : Type 0 where
   pub number : ℕ
   pub places : Places
 
--- so much in one line
+-- a row, written short
 abbrev pub row : ℕ → Places → Row
 row number places = record { number = number; places = places }
 
@@ -75,7 +75,9 @@ table =
     ∷ row 13 fieldStart
     ∷ row 14 fieldStart
     ∷ row 15 fieldStart
-    ∷ row 16 (at (22 ∷ [])) ∷ row 17 (at (23 ∷ [])) ∷ row 18 (at (27 ∷ []))
+    ∷ row 16 (at (generalPlace ∷ []))
+    ∷ row 17 (at (factorPlace ∷ []))
+    ∷ row 18 (at (centsPlace ∷ []))
     ∷ row 19 (at (boletoAmount .from ∷ []))
     ∷ row 20 (at (typePlace ∷ segmentPlace ∷ []))
     ∷ row 21 (at (batchRecords .from ∷ fileRecords .from ∷ []))

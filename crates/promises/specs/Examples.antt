@@ -1,4 +1,5 @@
 -- The table of proved examples: twelve, in one statement. Assumes nothing.
+use Rattle.layout.specs.Kinds.{same}
 use mathlib.Core.Bool.{Bool, true, false, not, _&&_}
 use mathlib.Core.List.{List, [], _∷_}
 use Prim.Native.Char.{code}
@@ -21,12 +22,6 @@ use Rattle.boleto.specs.Rules.{headRules, barcodeRules}
 abbrev pub bytes : String → List ℕ
 bytes []ˢ = []
 bytes (c ∷ˢ s) = code c ∷ bytes s
-
-abbrev pub same : List ℕ → List ℕ → Bool
-same [] [] = true
-same [] (y ∷ ys) = false
-same (x ∷ xs) [] = false
-same (x ∷ xs) (y ∷ ys) = eqb x y && same xs ys
 
 abbrev pub accepted? : Answer → Bool
 accepted? Accepted = true
@@ -68,5 +63,5 @@ every [] = true
 every (e ∷ es) = holds e && every es
 
 pub table-holds : T (every table)
-unfolding table holds checkDigit counts lift weighed leading headRules barcodeRules firstBroken lineOf exists daysOfYears dayNumber factorOf
+unfolding table holds same checkDigit counts lift weighed leading headRules barcodeRules firstBroken lineOf exists daysOfYears dayNumber factorOf
 table-holds = tt

@@ -18,10 +18,9 @@ use Rattle.layout.specs.declared.Record.the-variants.{FileHeader, BatchHeader, 
 use Rattle.layout.specs.declared.pairs.Batch.{Batch}
 use Rattle.checker.specs.Order.{payment}
 use Rattle.checker.specs.Totals.{totals, none, add, centsOf}
-use Rattle.checker.specs.Line.{recordIn, houseRules, mostBatches, mostPayments, headerBatch, trailerBatch}
+use Rattle.checker.specs.Line.{recordIn, houseRules, mostBatches, mostPayments, headerBatch, trailerBatch, lineFrom}
 use Rattle.checker.specs.Machine.{directionOf}
 use Rattle.checker.specs.declared.totals.Totals.{Totals}
-use Rattle.writer.specs.Filling.{lineFrom}
 
 -- ---- a line
 

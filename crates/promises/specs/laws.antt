@@ -1,7 +1,6 @@
 -- What is proved of the definitions.
 pub mod Tabled
 pub mod Families
-pub mod Edges
 pub mod Facts
 pub mod Shape
 pub mod Parse
@@ -17,3 +16,5 @@ pub mod NextLine
 pub mod OtherRecord
 pub mod Listed
 pub mod Change
+pub mod AcceptedFiles
+pub mod ShutOut

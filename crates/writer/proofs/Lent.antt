@@ -7,8 +7,9 @@ use native.Mathlib.Omega.{arith}
 use borrow.Author.Tests.{le-leb}
 use lib.ListN.{length, getD, take, drop, set, length-append, length-drop, drop-of-length-le, take-append-drop}
 use lib.Seq.{drop-cons, set-at, drop-drop, take-all, take-at, drop-at}
+use Rattle.answer.specs.laws.Order.{never}
 use Rattle.fields.specs.Values.{laid}
-use Rattle.writer.specs.Filling.{lineFrom}
+use Rattle.checker.specs.Line.{lineFrom}
 use Rattle.writer.specs.Refusals.{size}
 use Rattle.writer.specs.declared.given.Detail.{Detail}
 
@@ -54,17 +55,17 @@ thirdOver noted d l out = take 484 out ++ (flatten (cond noted (l ∷ []) []) ++
 
 pub third-room : (noted : Bool) (d : Detail) (n : ℕ) → size (suc (suc (length (cond noted (d ∷ []) [])))) ≤ n → (484 ≤ n) × (noted ≡ true → 726 ≤ n)
 third-room true d n h = (omega arith, λ e. h)
-third-room false d n h = (h, λ e. absurd (let z : _≡_ {A = ℕ} 0 1 = cc in omega arith))
+third-room false d n h = (h, never)
 
 pub third-put : (noted : Bool) (d : Detail) (l out new : List ℕ) → noted ≡ true → 484 ≤ length out → new ≡ l ++ drop 242 (take (length out - 484) (drop 484 out))
     → take 484 out ++ (new ++ drop (length out - 484) (drop 484 out)) ≡ thirdOver noted d l out
 unfolding flatten
 third-put true d l out new e h q = lent 484 out h 242 l new q ∙ ap (λ (x : List ℕ). take 484 out ++ (x ++ drop 726 out)) (sym (append-nil l))
-third-put false d l out new e h q = absurd (let z : _≡_ {A = ℕ} 0 1 = cc in omega arith)
+third-put false d l out new e h q = never e
 
 pub third-none : (noted : Bool) (d : Detail) (l out : List ℕ) → noted ≡ false → out ≡ thirdOver noted d l out
 unfolding flatten
-third-none true d l out e = absurd (let z : _≡_ {A = ℕ} 0 1 = cc in omega arith)
+third-none true d l out e = never (sym e)
 third-none false d l out e = sym (take-append-drop 484 out)
 
 module _ (a b out : List ℕ) (ka : length a ≡ 242) (kb : length b ≡ 242) where

@@ -3,14 +3,13 @@ use mathlib.Core.Path.{_≡_, refl, sym, ap, ap₂, _∙_}
 use mathlib.Core.Bool.{Bool, true, false, cond}
 use mathlib.Core.List.{List, [], _∷_, append-nil}
 use Prim.Native.Nat.{ℕ}
-use native.Mathlib.Omega.{arith}
 use borrow.Author.Tests.{eq-eqb}
 use lib.ListN.{length, replicate}
 use Rattle.answer.specs.Rules.{AllKept, firstBroken, onLine, noLine}
 use Rattle.answer.specs.declared.Refusal.{Refusal}
 use Rattle.answer.specs.declared.Answer.{Answer}
 use Rattle.answer.specs.declared.Answer.the-variants.{Accepted, Refused}
-use Rattle.answer.specs.laws.Order.{first-on-line, gone-on, stopped, accepted-kept}
+use Rattle.answer.specs.laws.Order.{never-refused, first-on-line, gone-on, stopped, accepted-kept}
 use Rattle.layout.specs.Table.{isOneOf}
 use Rattle.layout.specs.declared.Direction.{Direction}
 use Rattle.layout.specs.declared.Record.{Record}
@@ -30,9 +29,6 @@ use Rattle.writer.specs.declared.given.Detail.{Detail}
 use Rattle.writer.specs.declared.given.Payment.{Payment}
 use Rattle.writer.specs.declared.records.Tried.{Tried}
 use Rattle.writer.specs.declared.payments.TriedPayment.{TriedPayment}
-
-never : {A : Type 0} {r : Refusal} → Refused r ≡ Accepted → A
-never e = absurd (let z : _≡_ {A = ℕ} 0 1 = cc in omega arith)
 
 -- ---- one record
 
@@ -90,9 +86,9 @@ module _ (s : Checker) (d : Direction) (b : Batch) (p : Payment) (v : Fields) {t
   later-stopped r e =
       record {
         answered = stops s (p .second) (thirdIn p) (second b) (notes d ∷ []) h r e;
-        moved = λ q. never (sym e ∙ q);
+        moved = λ q. never-refused (sym q ∙ e);
         kept = refl;
-        made = λ q. never (sym e ∙ q);
+        made = λ q. never-refused (sym q ∙ e);
       }
 
   pub later-gone-on : {u : Tried} → t .answer ≡ Accepted → TriesThird (t .machine) d p u
@@ -112,8 +108,8 @@ module _ (s : Checker) (p : Payment) {t : Tried} (h : Tries (isOneOf (p .first .
   payment-stopped r e =
       record {
         answered = stops s (p .first) (p .second ∷ thirdIn p) (first (s .batch)) (second (s .batch) ∷ notes (s .dir) ∷ []) h r e;
-        moved = λ q. never (sym e ∙ q);
-        made = λ q. never (sym e ∙ q);
+        moved = λ q. never-refused (sym q ∙ e);
+        made = λ q. never-refused (sym q ∙ e);
       }
 
   pub payment-gone-on : {u : TriedPayment} → t .answer ≡ Accepted → TriesLater (t .machine) (s .dir) (s .batch) p (t .fields) u → TriesPayment s p u

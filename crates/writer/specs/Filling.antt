@@ -10,7 +10,7 @@ use Rattle.checker.specs.Line.{ordinal, headerBatch, trailerBatch}
 use Rattle.checker.specs.declared.Checker.{Checker}
 use Rattle.writer.specs.declared.given.Detail.{Detail}
 
--- where they stand among the fields of their records
+-- where they stand among the fields of their records, from 0 on
 abbrev pub bankIndex : ℕ
 bankIndex = 0
 
@@ -27,7 +27,7 @@ firstIndex = 4
 abbrev pub secondIndex : ℕ
 secondIndex = 5
 
--- a line of a batch; a detail, numbered from 1 by one; a line that is not in a batch
+-- a line of a batch; a detail, numbered from 1 by one
 abbrev pub filledInBatch : Checker → Fields → Fields
 filledInBatch s v = withNumber batchIndex (ordinal s) (withNumber bankIndex (s .bank) v)
 
@@ -55,9 +55,6 @@ filled SegmentZ s v = filledDetail s v
 filled BatchTrailer s v = filledBatchTrailer s v
 filled FileTrailer s v = filledFileTrailer s v
 
--- the record that is written, and its line with CR and LF
+-- the record that is written
 abbrev pub bytesOf : Checker → Detail → List ℕ
 bytesOf s g = recordOf (g .which) (filled (g .which) s (g .fields))
-
-abbrev pub lineFrom : List ℕ → List ℕ
-lineFrom rec = rec ++ 13 ∷ 10 ∷ []

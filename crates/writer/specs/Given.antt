@@ -42,7 +42,7 @@ recordsOf (closeFile v) = given FileTrailer v ∷ []
 
 -- ---- the amount of a payment, which its first record gives
 
--- where it stands among the fields of A, and of J
+-- where it stands among the fields of A, and of J, from 0 on
 abbrev pub creditIndex : ℕ
 creditIndex = 19
 

@@ -6,10 +6,11 @@ use lib.ListN.{length, take, drop}
 use Rattle.answer.specs.Rules.{firstBroken}
 use Rattle.answer.specs.declared.Answer.{Answer}
 use Rattle.answer.specs.declared.Answer.the-variants.{Accepted, Refused}
+use Rattle.checker.specs.Line.{lineFrom}
 use Rattle.checker.specs.Machine.{start}
 use Rattle.checker.specs.declared.Checker.{Checker}
 use Rattle.writer.specs.Given.{Call, recordsOf}
-use Rattle.writer.specs.Filling.{bytesOf, lineFrom}
+use Rattle.writer.specs.Filling.{bytesOf}
 use Rattle.writer.specs.Refusals.{nextBy, size, callRules}
 use Rattle.writer.specs.declared.given.Detail.{Detail}
 use Rattle.writer.specs.declared.Writer.{Writer}

@@ -4,7 +4,7 @@ use mathlib.Core.List.{List, [], _∷_, _++_}
 use Prim.Native.Nat.{ℕ, _+_, _*_}
 use lib.Dec.{leb, ltb}
 use lib.ListN.{length, drop}
-use Rattle.answer.specs.Limits.{fileCents, fileRecords}
+use Rattle.answer.specs.Limits.{fileCents, mostRecords}
 use Rattle.answer.specs.Rules.{Rule, rule, rulesOnLine}
 use Rattle.answer.specs.Output.{room}
 use Rattle.layout.specs.Table.{typePlace, segmentPlace, fieldsOf, isOneOf}
@@ -15,7 +15,7 @@ use Rattle.layout.specs.declared.Record.{Record}
 use Rattle.layout.specs.declared.Record.the-variants.{FileHeader, BatchHeader, SegmentZ, BatchTrailer, FileTrailer}
 use Rattle.checker.specs.Order.{first, second}
 use Rattle.checker.specs.Line.{ordinal, mostBatches, mostPayments, houseRules, lineBytes}
-use Rattle.checker.specs.Machine.{lineOf, next, sound}
+use Rattle.checker.specs.Machine.{lineOf, next, sound, mostDetails}
 use Rattle.checker.specs.declared.order.Phase.{Phase}
 use Rattle.checker.specs.declared.order.Phase.the-variants.{Start, Headed, Opened, Begun, Paid, Noted, Closed, Ended}
 use Rattle.checker.specs.declared.Checker.{Checker}
@@ -52,19 +52,16 @@ turns Ended = may false false false false false
 abbrev pub recordsSoFar : Checker → ℕ
 recordsSoFar s = s .closed .records .0 + s .current .records .0
 
--- a payment has two details at least, and three at most; behind it come the trailers of its batch and of the file
+-- a payment has two details at least; behind it come the trailers of its batch and of the file
 abbrev pub leastDetails : ℕ
 leastDetails = 2
-
-abbrev pub mostDetails : ℕ
-mostDetails = 3
 
 abbrev pub trailers : ℕ
 trailers = 2
 
 -- a file that has these records has room for more
 abbrev pub fitsFile : ℕ → ℕ → Bool
-fitsFile records more = leb (records + more) fileRecords
+fitsFile records more = leb (records + more) mostRecords
 
 abbrev pub fitsBatch : ℕ → Bool
 fitsBatch records = fitsFile records (1 + leastDetails + trailers)

@@ -5,7 +5,6 @@ pub mod Accepted
 pub mod Filled
 pub mod Lines
 pub mod Reads
-pub mod Details
 pub mod Ruled
 pub mod Turn
 pub mod TakesLine
@@ -17,7 +16,6 @@ pub mod Fits
 pub mod Laid
 pub mod Answers
 pub mod Memory
-pub mod Each
 pub mod Numbers
 pub mod RefusedLine
 pub mod Holds

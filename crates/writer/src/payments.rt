@@ -23,9 +23,9 @@ ghost use lib.ListN.{length, take, drop};
 ghost use Rattle.answer.specs.Rules.{firstBroken};
 ghost use Rattle.layout.specs.Table.{code, isOneOf};
 ghost use Rattle.checker.specs.Order.{first, second};
-ghost use Rattle.checker.specs.Machine.{sound};
+ghost use Rattle.checker.specs.Machine.{sound, mostDetails};
 ghost use Rattle.writer.specs.Given.{amountOf, recordsIn};
-ghost use Rattle.writer.specs.Refusals.{notes, nextBy, leastDetails, mostDetails, sumRule, size};
+ghost use Rattle.writer.specs.Refusals.{notes, nextBy, leastDetails, sumRule, size};
 ghost use Rattle.writer.specs.inner.Steps.{linesThird, linesWith, TriesThird, TriesLater, TriesPayment, MayPay};
 
 // The answer, and where it accepts, the state behind all records and their fields as they are written.

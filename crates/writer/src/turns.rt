@@ -10,7 +10,8 @@ use checker::places;
 ghost use mathlib.Core.Path.{_≡_};
 ghost use Prim.Native.Nat.{_≤_};
 ghost use Rattle.answer.specs.Rules.{firstBroken};
-ghost use Rattle.writer.specs.Refusals.{turns, recordsSoFar, fitsFile, batchLimits, paymentLimits, mostDetails, held};
+ghost use Rattle.checker.specs.Machine.{mostDetails};
+ghost use Rattle.writer.specs.Refusals.{turns, recordsSoFar, fitsFile, batchLimits, paymentLimits, held};
 ghost use Rattle.writer.specs.inner.Steps.{turnOf};
 
 // What opening a batch asks room for: its header, a payment of two records, and two trailers.

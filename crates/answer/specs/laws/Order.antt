@@ -10,8 +10,12 @@ use Rattle.answer.specs.declared.Refusal.{Refusal}
 use Rattle.answer.specs.declared.Answer.{Answer}
 use Rattle.answer.specs.declared.Answer.the-variants.{Accepted, Refused}
 
-never : {A : Type 0} (r : Refusal) → Accepted ≡ Refused r → A
-never r e = absurd (let z : _≡_ {A = ℕ} 0 1 = cc in omega arith)
+-- a test that failed did not hold, and an acceptance is no refusal
+pub never : {A : Type 0} → false ≡ true → A
+never e = absurd (let z : _≡_ {A = ℕ} 0 1 = cc in omega arith)
+
+pub never-refused : {A : Type 0} {r : Refusal} → Accepted ≡ Refused r → A
+never-refused e = absurd (let z : _≡_ {A = ℕ} 0 1 = cc in omega arith)
 
 -- ---- accepted exactly if every rule is kept
 
@@ -27,7 +31,7 @@ accepted-kept (r ∷ rs) e = go (r .kept) refl (accepted-kept rs) e
   where
     go : (k : Bool) → r .kept ≡ k → (firstBroken rs ≡ Accepted → AllKept rs) → cond k (firstBroken rs) (Refused (r .refused)) ≡ Accepted → (r .kept ≡ true) × AllKept rs
     go true q rest e = (q, rest e)
-    go false q rest e = never (r .refused) (sym e)
+    go false q rest e = never-refused (sym e)
 
 -- ---- refused exactly if that rule is broken and every earlier one is kept
 
@@ -42,7 +46,7 @@ broken-refused rs r b = ap firstBroken (b .are) ∙ stops-here r (b .later) (b .
 
 pub refused-broken : (rs : List Rule) (r : Refusal) → firstBroken rs ≡ Refused r → Broken rs r
 unfolding firstBroken AllKept
-refused-broken [] r e = never r e
+refused-broken [] r e = never-refused e
 refused-broken (x ∷ rs) r e = go (x .kept) refl (refused-broken rs r) e
   where
     go : (k : Bool) → x .kept ≡ k → (firstBroken rs ≡ Refused r → Broken rs r) → cond k (firstBroken rs) (Refused (x .refused)) ≡ Refused r → Broken (x ∷ rs) r
@@ -134,6 +138,15 @@ front-accepted xs ys e = go (firstBroken xs) (sym (first-append xs ys) ∙ e)
     go : (a : Answer) → andThen a (firstBroken ys) ≡ Accepted → a ≡ Accepted
     go Accepted q = refl
     go (Refused r) q = q
+
+-- rules that are kept, one behind the other
+pub none-kept : AllKept []
+unfolding AllKept
+none-kept = tt
+
+pub more-kept : (r : Rule) (rs : List Rule) → r .kept ≡ true → AllKept rs → AllKept (r ∷ rs)
+unfolding AllKept
+more-kept r rs e k = (e, k)
 
 -- the rules of two lists that are all kept
 pub kept-front : (xs ys : List Rule) → AllKept (xs ++ ys) → AllKept xs

@@ -1,13 +1,13 @@
 -- Every rule of a line names one of the paper's numbers, from 1 to 23, and no line. Assumes nothing.
 use mathlib.Core.Path.{_≡_, refl, subst}
-use mathlib.Core.Bool.{Bool, _&&_}
+use mathlib.Core.Bool.{Bool, true, false, cond, _&&_}
 use mathlib.Core.List.{List, [], _∷_, _++_}
 use Prim.Native.Nat.{ℕ, _≤_}
 use lib.Dec.{T, leb, leb→le}
 use Rattle.answer.specs.Rules.{Rule, rule, noLine, Broken}
 use Rattle.answer.specs.declared.Refusal.{Refusal}
 use Rattle.digits.specs.laws.Tests.{both}
-use Rattle.layout.specs.Table.{Kind, N, Id, T as Text, F, D, Time, K, O, Zeros, Exact, OneOf, Service, Form, Barcode, RecordType, Segment, Field, segmentFields, segmentPlace, typePlace, batchRecords, fileBatches, fileRecords}
+use Rattle.layout.specs.Table.{Kind, N, Id, T as Text, F, D, Time, K, O, Zeros, Exact, OneOf, Service, Form, Barcode, RecordType, Segment, Field, isOneOf, segmentFields, segmentPlace, typePlace, batchRecords, fileBatches, fileRecords}
 use Rattle.layout.specs.Kinds.{Part, means, blankIn}
 use Rattle.layout.specs.Record.{rulesOf, partOf}
 use Rattle.layout.specs.declared.Direction.{Direction}
@@ -69,15 +69,11 @@ fields (f ∷ fs) d rec = join (kind (f .kind) (partOf f d rec)) (fields fs d re
 
 house : (r : Record) (rec : List ℕ) → Listed (houseRules r rec)
 unfolding boletoRules
-house FileHeader rec = none
-house BatchHeader rec = none
-house SegmentA rec = none
-house SegmentB rec = none
-house SegmentJ rec = more tt (more tt (more tt (one tt)))
-house SegmentJ52 rec = none
-house SegmentZ rec = none
-house BatchTrailer rec = none
-house FileTrailer rec = none
+house r rec = go (isOneOf r (SegmentJ ∷ []))
+  where
+    go : (b : Bool) → Listed (cond b (boletoRules rec) [])
+    go true = more tt (more tt (more tt (one tt)))
+    go false = none
 
 detail : (r : Record) (s : Checker) (rec : List ℕ) → Listed (detailRules r s rec)
 unfolding detailRules

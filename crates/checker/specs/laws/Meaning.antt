@@ -1,21 +1,22 @@
 -- What the answer to a line says, and what an accepted line does to the state. Assumes nothing.
 use mathlib.Core.Path.{_≡_, refl, sym, ap, _∙_, subst}
 use mathlib.Core.Logic.{_↔_}
-use mathlib.Core.Bool.{Bool, true, false, cond}
-use mathlib.Core.List.{List, [], _∷_, List·Memᴰ, List·Memᴰ·head, List·Memᴰ·tail}
+use mathlib.Core.Bool.{Bool, true, false, not, cond}
+use mathlib.Core.List.{List}
 use Prim.Native.Nat.{ℕ}
-use native.Mathlib.Omega.{arith}
-use borrow.Author.Tests.{eqb-true}
+use borrow.Author.Tests.{eqb-true, eq-eqb}
 use lib.ListN.{length}
 use Rattle.answer.specs.Rules.{noLine, refusal, refusedAs, firstBroken, AllKept, Broken, onLine}
-use Rattle.answer.specs.laws.Order.{kept-accepted, accepted-kept, broken-refused, refused-broken}
+use Rattle.answer.specs.laws.Order.{never, never-refused, kept-accepted, accepted-kept, broken-refused, refused-broken}
 use Rattle.answer.specs.declared.LineNo.{LineNo}
 use Rattle.answer.specs.declared.Refusal.{Refusal}
 use Rattle.answer.specs.declared.Answer.{Answer}
 use Rattle.answer.specs.declared.Answer.the-variants.{Accepted, Refused}
+use Rattle.digits.specs.Digits.{place}
+use Rattle.layout.specs.Record.{allPrintable}
 use Rattle.layout.specs.declared.Record.{Record}
 use Rattle.layout.specs.declared.Record.the-variants.{FileHeader, BatchHeader, SegmentA, SegmentB, SegmentJ, SegmentJ52, SegmentZ, BatchTrailer, FileTrailer}
-use Rattle.checker.specs.Order.{follows, after, suits, readAs}
+use Rattle.checker.specs.Order.{follows, after, ended}
 use Rattle.checker.specs.Line.{lineBytes, recordIn, lineIs, rulesAs, found, dueRules, typeRules, lineRules, rulesOfLine}
 use Rattle.checker.specs.Machine.{lineOf, next, moved, sound, stepped, answerTo, stepOf}
 use Rattle.checker.specs.declared.order.Due.{Due}
@@ -23,15 +24,12 @@ use Rattle.checker.specs.declared.order.Due.the-variants.{Line, Nothing}
 use Rattle.checker.specs.declared.Checker.{Checker}
 use Rattle.checker.specs.declared.Stepped.{Stepped}
 use Rattle.checker.specs.laws.Listed.{line-listed, broken-listed}
+use Rattle.checker.specs.laws.Edges.{Among, among-by, not-ended}
 
 -- the line breaks this refusal's rule and none before it, and is the line that the refusal names
 pub record Breaks (s : Checker) (line : List ℕ) (r : Refusal) : Type 0 where
   pub broken : Broken (rulesOfLine s line) (refusal (r .number) noLine (r .place))
   pub numbered : r .line ≡ lineOf s
-
--- a record is one of these
-abbrev pub Among : Record → List Record → Type 0
-Among r rs = List·Memᴰ r rs
 
 -- the edge that an accepted line takes: from a phase, a direction and a kind of batch, by a record that may follow there, to the phase behind it
 pub record Edge (s : Checker) (line : List ℕ) : Type 0 where
@@ -43,15 +41,12 @@ pub record Edge (s : Checker) (line : List ℕ) : Type 0 where
   pub moves : stepOf s line .state ≡ next by s (recordIn line)
   pub to : stepOf s line .state .phase ≡ after by
 
-never : {A : Type 0} {r : Refusal} → Accepted ≡ Refused r → A
-never e = absurd (let z : _≡_ {A = ℕ} 0 1 = cc in omega arith)
-
 -- ---- the answer
 
 -- an answer on a line is accepted, or refused, as the answer is
 off-line-accepted : (n : LineNo) (a : Answer) → onLine n a ≡ Accepted → a ≡ Accepted
 off-line-accepted n Accepted e = refl
-off-line-accepted n (Refused r) e = never (sym e)
+off-line-accepted n (Refused r) e = never-refused (sym e)
 
 record OffLine (n : LineNo) (a : Answer) (r : Refusal) : Type 0 where
   found : Refusal
@@ -59,7 +54,7 @@ record OffLine (n : LineNo) (a : Answer) (r : Refusal) : Type 0 where
   same : r ≡ refusal (found .number) n (found .place)
 
 off-line-refused : (n : LineNo) (a : Answer) (r : Refusal) → onLine n a ≡ Refused r → OffLine n a r
-off-line-refused n Accepted r e = never e
+off-line-refused n Accepted r e = never-refused e
 off-line-refused n (Refused x) r e = record { found = x; was = refl; same = cc }
 
 answer-on-line : (a : Answer) (s : Checker) (line : List ℕ) → answerTo a s line .answer ≡ onLine (lineOf s) a
@@ -111,7 +106,7 @@ module _ (s : Checker) (line : List ℕ) where
     where
       go : (b : Bool) (a : Answer) → cond b (answerTo a s line) (stepped s (refusedAs 51 0)) .answer ≡ Refused r
           → cond b (answerTo a s line) (stepped s (refusedAs 51 0)) .state ≡ s
-      go true Accepted e = never e
+      go true Accepted e = never-refused e
       go true (Refused x) e = refl
       go false a e = refl
 
@@ -122,18 +117,9 @@ module _ (s : Checker) (line : List ℕ) where
     where
       go : (b : Bool) → sound s ≡ b → cond b (answerTo (firstBroken (rulesOfLine s line)) s line) (stepped s (refusedAs 51 0)) .answer ≡ Accepted → sound s ≡ true
       go true q e = q
-      go false q e = never (sym e)
+      go false q e = never-refused (sym e)
 
--- what a line is read as is one of the records that may follow
-read-among : (type segment : ℕ) (rs : List Record) (r : Record) → readAs type segment rs ≡ Line r → Among r rs
-read-among type segment [] r e = absurd (let z : _≡_ {A = ℕ} 0 1 = cc in omega arith)
-read-among type segment (x ∷ rs) r e = go (suits type segment x) (read-among type segment rs r) e
-  where
-    go : (b : Bool) → (readAs type segment rs ≡ Line r → Among r rs) → cond b (Line x) (readAs type segment rs) ≡ Line r → Among r (x ∷ rs)
-    go true later e = List·Memᴰ·head {x = x} (cc)
-    go false later e = List·Memᴰ·tail (later e)
-
-next-phase : (r : Record) (s : Checker) (rec : List ℕ) → next r s rec .phase ≡ after r
+pub next-phase : (r : Record) (s : Checker) (rec : List ℕ) → next r s rec .phase ≡ after r
 next-phase FileHeader s rec = refl
 next-phase BatchHeader s rec = refl
 next-phase SegmentA s rec = refl
@@ -144,36 +130,59 @@ next-phase SegmentZ s rec = refl
 next-phase BatchTrailer s rec = refl
 next-phase FileTrailer s rec = refl
 
--- an accepted line moves the state along its edge
-pub accepted-moves : (s : Checker) (line : List ℕ) → stepOf s line .answer ≡ Accepted → Edge s line
+-- ---- a line's rules, as facts, where it is read as r
+
+pub record LineAs (r : Record) (s : Checker) (line : List ℕ) : Type 0 where
+  pub long : length line ≡ lineBytes
+  pub printable : allPrintable (recordIn line) ≡ true
+  pub cr : place 241 line ≡ 13
+  pub lf : place 242 line ≡ 10
+  pub read : lineIs s (recordIn line) ≡ Line r
+  pub rules : AllKept (rulesAs r s (recordIn line))
+
+pub line-kept : {r : Record} (s : Checker) (line : List ℕ) → LineAs r s line → AllKept (rulesOfLine s line)
 unfolding AllKept rulesOfLine lineRules typeRules
-accepted-moves s line e = go (lineIs s rec) refl (typed .0) (typed .1)
+line-kept s line a =
+    let rec = recordIn line in
+    let on : not (ended (s .phase)) ≡ true = rw (not-ended s rec (a .read)) in
+    let rules = subst (λ (d : Due). AllKept (dueRules d s rec)) (sym (a .read)) (a .rules) in
+    (on, (eq-eqb _ _ (a .long), (a .printable, (eq-eqb _ _ (a .cr), (eq-eqb _ _ (a .lf), (ap found (a .read), rules))))))
+
+pub kept-line : (s : Checker) (line : List ℕ) → AllKept (rulesOfLine s line) → (r : Record) × LineAs r s line
+unfolding AllKept rulesOfLine lineRules typeRules
+kept-line s line k = go (lineIs s rec) refl (typed .0) (typed .1)
   where
     rec : List ℕ
     rec = recordIn line
 
-    ok : sound s ≡ true
-    ok = accepted-sound s line e
-
-    kept : AllKept (rulesOfLine s line)
-    kept = line-accepted s line ok .0 e
-
     typed : AllKept (typeRules s rec)
-    typed = kept .1 .1 .1 .1 .1
+    typed = k .1 .1 .1 .1 .1
 
-    go : (d : Due) → lineIs s rec ≡ d → found d ≡ true → AllKept (dueRules d s rec) → Edge s line
-    go (Line r) q f k =
-        let state : stepOf s line .state ≡ next r s rec =
-        ap (λ (x : Stepped). x .state) (by-rules s line ok)
-        ∙ ap (λ (a : Answer). answerTo a s line .state) (kept-accepted (rulesOfLine s line) kept)
-        ∙ ap (λ (d : Due). moved d s rec) q in
-        record {
-          long = eqb-true _ _ (kept .1 .0);
-          by = r;
-          read = q;
-          may-follow = read-among _ _ _ r q;
-          rules-kept = k;
-          moves = state;
-          to = ap (λ (x : Checker). x .phase) state ∙ next-phase r s rec;
-        }
-    go Nothing q f k = absurd (let z : _≡_ {A = ℕ} 0 1 = cc in omega arith)
+    go : (d : Due) → lineIs s rec ≡ d → found d ≡ true → AllKept (dueRules d s rec) → (r : Record) × LineAs r s line
+    go (Line r) q f rules =
+        let long = eqb-true _ _ (k .1 .0) in
+        (r, record { long = long; printable = k .1 .1 .0; cr = eqb-true _ _ (k .1 .1 .1 .0); lf = eqb-true _ _ (k .1 .1 .1 .1 .0); read = q; rules = rules })
+    go Nothing q f rules = never f
+
+-- and it moves a sound state
+pub line-moves : {r : Record} (s : Checker) (line : List ℕ) → sound s ≡ true → LineAs r s line → stepOf s line .state ≡ next r s (recordIn line)
+line-moves s line ok a =
+    ap (λ (x : Stepped). x .state) (by-rules s line ok)
+    ∙ ap (λ (a : Answer). answerTo a s line .state) (kept-accepted (rulesOfLine s line) (line-kept s line a))
+    ∙ ap (λ (d : Due). moved d s (recordIn line)) (a .read)
+
+-- an accepted line moves the state along its edge
+pub accepted-moves : (s : Checker) (line : List ℕ) → stepOf s line .answer ≡ Accepted → Edge s line
+accepted-moves s line e =
+    let ok = accepted-sound s line e in
+    let (r, a) = kept-line s line (line-accepted s line ok .0 e) in
+    let state = line-moves s line ok a in
+    record {
+      long = a .long;
+      by = r;
+      read = a .read;
+      may-follow = among-by s (recordIn line) (a .read);
+      rules-kept = a .rules;
+      moves = state;
+      to = ap (λ (x : Checker). x .phase) state ∙ next-phase r s (recordIn line);
+    }

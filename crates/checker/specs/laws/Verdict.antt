@@ -11,7 +11,6 @@ use Rattle.answer.specs.declared.Refusal.{Refusal}
 use Rattle.answer.specs.declared.Answer.{Answer}
 use Rattle.answer.specs.declared.Answer.the-variants as answer
 use Rattle.layout.specs.declared.Record.{Record}
-use Rattle.layout.specs.declared.Record.the-variants.{FileHeader, BatchHeader, SegmentA, SegmentB, SegmentJ, SegmentJ52, SegmentZ, BatchTrailer, FileTrailer}
 use Rattle.checker.specs.Order.{ended}
 use Rattle.checker.specs.Totals.{add}
 use Rattle.checker.specs.Line.{recordIn, rulesOfLine}
@@ -23,10 +22,12 @@ use Rattle.checker.specs.declared.Checker.{Checker}
 use Rattle.checker.specs.declared.Stepped.{Stepped}
 use Rattle.checker.specs.declared.file.Outcome.{Outcome}
 use Rattle.checker.specs.declared.file.Outcome.the-variants.{Accepted, Refused}
+use Rattle.checker.specs.laws.Sums.{next-counts}
+use Rattle.checker.specs.laws.Bounds.{counts-are}
 use Rattle.checker.specs.laws.Listed.{lastNumber, line-listed, broken-listed}
-use Rattle.checker.specs.laws.Meaning.{Breaks, line-accepted, line-refused, accepted-moves}
+use Rattle.checker.specs.laws.Meaning.{Breaks, line-accepted, line-refused, kept-line, line-moves}
 use Rattle.checker.specs.laws.Reached.{reached, end-never-guarded}
-use Rattle.checker.specs.laws.Runs.{steps-append}
+use Rattle.checker.specs.laws.Runs.{Lines, empty, full, steps-append}
 
 -- accepted: every line is, and the last is the file trailer
 pub record Passed (s : Checker) (ls : List (List ℕ)) (t : Totals) : Type 0 where
@@ -54,6 +55,15 @@ pub through-steps : {s t : Checker} {ls : List (List ℕ)} → Reached s → Thr
 unfolding steps
 through-steps c here = refl
 through-steps c (further {s} {l = l} k on) = rw (line-accepted s l (reached c) .1 k) (through-steps (after-line l c) on)
+
+pub through-append : {s t u : Checker} {xs ys : List (List ℕ)} → Through s xs t → Through t ys u → Through s (xs ++ ys) u
+through-append here q = q
+through-append (further k p) q = further k (through-append p q)
+
+-- each is whole
+pub through-lines : {s t : Checker} {ls : List (List ℕ)} → Through s ls t → Lines ls
+through-lines here = empty
+through-lines (further {s} {l = l} k on) = full l (kept-line s l k .1 .long) (through-lines on)
 
 -- ---- what is said of a file determines its outcome
 
@@ -126,21 +136,15 @@ refused-file file = refused-rest at-start file
 
 pub next-line-no : (r : Record) (s : Checker) (rec : List ℕ) → lineOf (next r s rec) .0 ≡ suc (lineOf s .0)
 unfolding add
-next-line-no FileHeader s rec = omega arith
-next-line-no BatchHeader s rec = omega arith
-next-line-no SegmentA s rec = omega arith
-next-line-no SegmentB s rec = omega arith
-next-line-no SegmentJ s rec = omega arith
-next-line-no SegmentJ52 s rec = omega arith
-next-line-no SegmentZ s rec = omega arith
-next-line-no BatchTrailer s rec = omega arith
-next-line-no FileTrailer s rec = omega arith
+next-line-no r s rec =
+    let records : Totals → ℕ = λ t. t .records .0 in
+    omega (arith, ap records (next-counts r s rec), ap records (counts-are r rec))
 
 pub through-line-no : {s t : Checker} {ls : List (List ℕ)} → Reached s → Through s ls t → lineOf t .0 ≡ lineOf s .0 + length ls
 through-line-no c here = omega arith
 through-line-no c (further {s} {l = l} k on) =
-    let d = accepted-moves s l (line-accepted s l (reached c) .1 k) in
-    let more : lineOf (stepOf s l .state) .0 ≡ suc (lineOf s .0) = rw (d .moves) (next-line-no (d .by) s (recordIn l)) in
+    let (r, a) = kept-line s l k in
+    let more : lineOf (stepOf s l .state) .0 ≡ suc (lineOf s .0) = rw (line-moves s l (reached c) a) (next-line-no r s (recordIn l)) in
     through-line-no (after-line l c) on ∙ omega arith
 
 pub line-named : {t : Checker} {ls : List (List ℕ)} → Through start ls t → lineOf t .0 ≡ suc (length ls)

@@ -9,7 +9,7 @@ use borrow.Author.Tests.{eqb-true}
 use lib.Dec.{T, eqb, leb→le, eqb→eq}
 use lib.ListN.{length, getD, take, drop, length-take}
 use Rattle.answer.specs.Rules.{Rule, rule, firstBroken, AllKept, refusedAs}
-use Rattle.answer.specs.laws.Order.{accepted-kept, here, gone-on, front-accepted}
+use Rattle.answer.specs.laws.Order.{never, accepted-kept, here, gone-on, front-accepted}
 use Rattle.answer.specs.declared.Answer.the-variants.{Accepted}
 use Rattle.digits.specs.Digits.{allDigits}
 use Rattle.digits.specs.Numbers.{number, mostDigits, numberOf}
@@ -35,9 +35,6 @@ use Rattle.fields.specs.laws.Wide.{wide, wideNumber, widePlace}
 record Some (m : Number) : Type 0 where
   value : ℕ
   is : m ≡ Is value
-
-never : {A : Type 0} → false ≡ true → A
-never e = absurd (let z : _≡_ {A = ℕ} 0 1 = cc in omega arith)
 
 digits-some : (bs : List ℕ) → Digits bs → length bs ≤ mostDigits → Some (numberOf bs)
 digits-some bs ds h = record { value = number bs; is = digits-give bs ds h }

@@ -1,8 +1,8 @@
 -- The table's rule: a test that antt computes over the fields of each record, and what follows from it. At each field, that its places are
 -- within a record; at each place of a record, that one field holds it and no other. Assumes nothing.
-use mathlib.Core.Path.{_≡_, refl, ap}
+use mathlib.Core.Path.{_≡_, refl, sym, ap, subst}
 use mathlib.Core.Bool.{_&&_}
-use mathlib.Core.List.{List, [], _∷_, _++_}
+use mathlib.Core.List.{List, [], _∷_, _++_, List·Memᴰ, List·Memᴰ·head, List·Memᴰ·tail}
 use Prim.Native.Nat.{ℕ, zero, suc, _≤_, _<_}
 use native.Mathlib.Nat.{not-suc-le-zero, le-of-suc-le-suc}
 use native.Mathlib.Decide.{decLe}
@@ -114,6 +114,11 @@ module _ (P : Field → Type 0) where
   at [] a j l = absurd (not-suc-le-zero l)
   at (g ∷ gs) a zero l = a .0
   at (g ∷ gs) a (suc j) l = at gs (a .1) j (le-of-suc-le-suc l)
+
+  pub of-member : {g : Field} {gs : List Field} → List·Memᴰ g gs → All P gs → P g
+  unfolding All
+  of-member (List·Memᴰ·head e) a = subst P (sym e) (a .0)
+  of-member (List·Memᴰ·tail m) a = of-member m (a .1)
 
 pub inside : (p : ℕ) (gs : List Field) → 1 ≤ p → T (tiles p gs) → All Inside gs
 unfolding All

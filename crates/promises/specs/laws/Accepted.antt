@@ -6,10 +6,9 @@ use Prim.Native.Nat.{ℕ}
 use Rattle.checker.specs.Machine.{start}
 use Rattle.checker.specs.File.{linesOf, checkFile}
 use Rattle.checker.specs.laws.Runs.{lines-joined, lines-are}
-use Rattle.checker.specs.laws.Verdict.{Passed, accepted-file}
+use Rattle.checker.specs.laws.Verdict.{Passed, through-lines, accepted-file}
 use Rattle.checker.specs.declared.totals.Totals.{Totals}
 use Rattle.checker.specs.declared.file.Outcome.the-variants.{Accepted}
-use Rattle.writer.specs.laws.Sequences.{through-lines}
 use Rattle.promises.specs.Grammar.{RightFile, Meets}
 use Rattle.promises.specs.laws.Build.{built}
 use Rattle.promises.specs.laws.Parse.{parsed}

@@ -15,12 +15,12 @@ use Rattle.layout.specs.declared.pairs.Batch.{Batch}
 use Rattle.checker.specs.Order.{ended}
 use Rattle.checker.specs.Line.{recordIn, lineIs}
 use Rattle.checker.specs.Machine.{start, directionOf, next, stepOf}
-use Rattle.checker.specs.Calls.{Reached, Through, here, further, left}
+use Rattle.checker.specs.Calls.{Reached, after-line, Through, here, further, left}
 use Rattle.checker.specs.declared.order.Due.the-variants.{Line}
 use Rattle.checker.specs.declared.order.Phase.the-variants.{Start}
 use Rattle.checker.specs.declared.Checker.{Checker}
-use Rattle.promises.specs.laws.Edges.{Follows, heads, follows-by, type-read}
-use Rattle.promises.specs.laws.Facts.{Fits, taken, next-reached}
+use Rattle.checker.specs.laws.Edges.{Follows, heads, follows-by, type-read}
+use Rattle.promises.specs.laws.Facts.{Fits, taken}
 use Rattle.promises.specs.laws.Records.{Settled, settled-next}
 
 -- from a state to the end
@@ -46,7 +46,7 @@ goes {s} {l} {ls} e = go (e .through) (e .at-end)
     go {t} (further k on) h =
         let a = taken (e .reached) k in
         let on′ = subst (λ (x : Checker). Through x ls t) (a .moves) on in
-        let c = next-reached (e .reached) (a .read) (a .fitting) in
+        let c = subst Reached (a .moves) (after-line l (e .reached)) in
         let rest : Ends (next (a .by) s (recordIn l)) ls = record { reached = c; to = t; through = on′; at-end = h } in
         let f = follows-by s (recordIn l) (a .read) in
         let typed = type-read s (recordIn l) (a .read) in

@@ -1,103 +1,48 @@
 -- A file of the grammar passes through the machine, line by line, with its totals. Assumes nothing.
-use mathlib.Core.Path.{_≡_, refl, sym, ap, _∙_, subst}
+use mathlib.Core.Path.{_≡_, refl, sym, ap, _∙_}
 use mathlib.Core.Bool.{true}
 use mathlib.Core.List.{List, [], _∷_}
-use Prim.Native.Nat.{ℕ, _+_, _-_, _≤_, _<_}
+use Prim.Native.Nat.{ℕ, _+_, _≤_, _<_}
 use native.Mathlib.Nat.{zero-add}
 use native.Mathlib.Omega.{arith}
-use lib.Dec.{lit≤}
 use lib.ListN.{length, length-append}
 use Rattle.answer.specs.Limits.{fileCents}
 use Rattle.answer.specs.Rules.{AllKept}
-use Rattle.answer.specs.laws.Order.{kept-accepted}
-use Rattle.digits.specs.Digits.{place, digitByte}
 use Rattle.digits.specs.Numbers.{value}
-use Rattle.digits.specs.laws.Strings.{part-getD}
 use Rattle.layout.specs.Pairs.{known}
-use Rattle.layout.specs.Table.{Kind, field, part, typeOf, typePlace, segmentPlace, fieldsOf, bankField}
-use Rattle.layout.specs.Kinds.{asFixed, means, text}
+use Rattle.layout.specs.Table.{part, fieldsOf, bankField}
 use Rattle.layout.specs.Record.{rulesOf}
 use Rattle.layout.specs.declared.Direction.{Direction}
 use Rattle.layout.specs.declared.Record.{Record}
-use Rattle.layout.specs.declared.Record.the-variants.{FileHeader, BatchHeader, SegmentA, SegmentB, SegmentJ, SegmentJ52, SegmentZ, BatchTrailer, FileTrailer}
+use Rattle.layout.specs.declared.Record.the-variants.{FileHeader, BatchHeader, BatchTrailer, FileTrailer}
 use Rattle.layout.specs.declared.pairs.Batch.{Batch}
 use Rattle.layout.specs.declared.pairs.Batch.the-variants.{Unknown}
-use Rattle.fields.specs.laws.Kept.{Kept, is-fixed, kept-field}
 use Rattle.checker.specs.Order.{after}
 use Rattle.checker.specs.Totals.{totals, none, add, batchesOf, paymentsOf, centsOf}
 use Rattle.checker.specs.laws.Bounds.{counts-are}
 use Rattle.checker.specs.Line.{recordIn, mostBatches, mostPayments}
-use Rattle.checker.specs.Machine.{state, start, next, inBatch}
+use Rattle.checker.specs.Machine.{state, start, next}
 use Rattle.checker.specs.Calls.{Reached, at-start, Through, here}
-use Rattle.checker.specs.laws.Verdict.{Passed, through-reached}
+use Rattle.checker.specs.laws.Details.{asked, AllRead, detail-of}
+use Rattle.checker.specs.laws.Asks.{read-right}
+use Rattle.checker.specs.laws.Verdict.{Passed, through-reached, through-append}
 use Rattle.checker.specs.declared.order.Phase.{Phase}
 use Rattle.checker.specs.declared.order.Phase.the-variants.{Headed, Paid, Noted, Closed}
 use Rattle.checker.specs.declared.totals.Totals.{Totals}
 use Rattle.checker.specs.declared.Checker.{Checker}
-use Rattle.writer.specs.laws.Due.{is-A, is-J, is-Z}
-use Rattle.writer.specs.laws.Reads.{Stands, in-line}
-use Rattle.writer.specs.laws.Details as details
-use Rattle.writer.specs.laws.Details.{letterOf, pays-detail, stands}
-use Rattle.writer.specs.laws.Counted.{same-totals, add-none, add-assoc}
-use Rattle.writer.specs.laws.Sequences.{through-append}
+use Rattle.checker.specs.laws.Sums.{same-totals, add-none, add-assoc}
 use Rattle.promises.specs.Grammar.{RightLine, Details, no-details, detail, kindIn, RightBatch, Batches, no-batches, batch, RightFile}
-use Rattle.promises.specs.laws.Edges.{Begins, by-A, by-J, Follows, heads, first-batch, closes-paid, closes-noted, next-batch, ends, read-by}
-use Rattle.promises.specs.laws.Facts.{asked, inDetail, AllRead, FewPayments, Limit, Fits, takes, header-bank, either-direction}
-use Rattle.promises.specs.laws.Shape.{Tail, stops-paid, stops-noted, steps, payments-tail}
+use Rattle.checker.specs.laws.Edges.{Follows, heads, first-batch, closes-paid, closes-noted, next-batch, ends}
+use Rattle.promises.specs.laws.Facts.{Fits, takes, header-bank, either-direction}
+use Rattle.promises.specs.laws.Shape.{batches-long, Tail, stops-paid, stops-noted, steps, payments-tail}
 
 -- ---- a line
 
--- fixed content of one byte
-fixed-byte : {bs : List ℕ} {b : ℕ} → Kept bs (asFixed (text (b ∷ []))) → bs ≡ b ∷ []
-fixed-byte (is-fixed c) = sym c
-
-module _ {r : Record} {d : Direction} {l : List ℕ} (k : RightLine r d l) where
-  -- a byte that the table fixes, and so the type and a detail's letter
-  byte-at : {j p b : ℕ} {kind : Kind} → Stands r j (field p p kind) → 1 ≤ p → means kind .held ≡ asFixed (text (b ∷ [])) → place p (recordIn l) ≡ b
-  byte-at {j} {p} {b} {kind} at low fixed =
-      let rec = recordIn l in
-      let z : p - 1 - (p - 1) ≡ 0 = omega arith in
-      let there = rw (at .is) at (kept-field r d rec (kept-accepted _ (k .fields)) j (at .below)) in
-      let bytes : part (field p p kind) rec ≡ b ∷ [] = fixed-byte (rw fixed at there) in
-      sym (part-getD rec (p - 1) (p - (p - 1)) (p - 1) 0 (omega arith) (omega arith)) ∙ rw (bytes, z)
-
-  type-at : place typePlace (recordIn l) ≡ typeOf r
-  type-at = byte-at (in-line r 2 (lit≤ tt)) (lit≤ tt) refl
-
-  letter-at : details.Details r → place segmentPlace (recordIn l) ≡ letterOf r
-  letter-at x = byte-at (stands x 4 (lit≤ tt)) (lit≤ tt) refl
-
--- Z has its letter, and a record that begins a payment has another
-noted : {r : Record} {d : Direction} {l : List ℕ} → RightLine r d l → r ≡ SegmentZ → place segmentPlace (recordIn l) ≡ 90
-noted {d = d} {l = l} k e = letter-at (subst (λ (x : Record). RightLine x d l) e k) (pays-detail (is-Z {b = Unknown}))
-
-not-noted : {b : Batch} {r : Record} {d : Direction} {l : List ℕ} → RightLine r d l → Begins b r → place segmentPlace (recordIn l) ≡ 90 → ⊥
-not-noted {d = d} k by-A e = omega (arith, letter-at k (pays-detail (is-A {d = d})))
-not-noted {d = d} k by-J e = omega (arith, letter-at k (pays-detail (is-J {d = d})))
-
 -- a line that may follow, and fits, is taken
 one : {s : Checker} {r : Record} {l : List ℕ} → Reached s → Follows (s .dir) (s .batch) (s .phase) r → Fits r s l → Through s (l ∷ []) (next r s (recordIn l))
-one {s} {r} {l} c f k = takes c (read-by s (recordIn l) f (type-at (k .right)) (noted (k .right)) (not-noted (k .right))) k here
+one {s} {r} {l} c f k = takes c (read-right s (recordIn l) f (k .right .fields)) k here
 
 -- ---- the payments of a batch
-
--- what the machine does alike with every record of a payment
-record IsDetail (r : Record) (s : Checker) : Type 0 where
-  asks : asked r s ≡ inDetail s
-  limits : FewPayments r s → Limit r s
-  opens : batchesOf r ≡ 0
-  moves : (rec : List ℕ) → next r s rec ≡ inBatch r (s .batch) s rec
-
-is-detail : (r : Record) (s : Checker) → typeOf r ≡ digitByte 3 → IsDetail r s
-is-detail FileHeader s e = absurd (omega arith)
-is-detail BatchHeader s e = absurd (omega arith)
-is-detail SegmentA s e = record { asks = refl; limits = λ few. few; opens = refl; moves = λ rec. refl }
-is-detail SegmentB s e = record { asks = refl; limits = λ few. few; opens = refl; moves = λ rec. refl }
-is-detail SegmentJ s e = record { asks = refl; limits = λ few. few; opens = refl; moves = λ rec. refl }
-is-detail SegmentJ52 s e = record { asks = refl; limits = λ few. few; opens = refl; moves = λ rec. refl }
-is-detail SegmentZ s e = record { asks = refl; limits = λ few. few; opens = refl; moves = λ rec. refl }
-is-detail BatchTrailer s e = absurd (omega arith)
-is-detail FileTrailer s e = absurd (omega arith)
 
 -- from a phase up to where the batch may close: so many lines, payments and cents more
 record Detailed (p : Phase) (d : Direction) (b : Batch) (n : ℕ) (x y : Totals) (ls : List (List ℕ)) (k c : ℕ) : Type 0 where
@@ -115,12 +60,12 @@ module _ {d : Direction} {b : Batch} {n : ℕ} {x : Totals} where
   details-through {p} y (steps {r = r} {k = k} f type t) (detail {c = c} {l = l} {ls = ls} w number ds) e few at =
       let s = state p d b n x y in
       let rec = recordIn l in
-      let i = is-detail r s type in
-      let numbers : AllRead (asked r s) l = rw (i .asks, e) (w .bank-is, (w .batch-is, (number, tt))) in
-      let fit : Fits r s l = record { right = w .right; numbers = numbers; limit = i .limits (omega arith) } in
+      let i = detail-of r type in
+      let numbers : AllRead (asked r s) rec = rw (i .asks s, e) (w .bank-is, (w .batch-is, (number, tt))) in
+      let fit : Fits r s l = record { right = w .right; numbers = numbers; limit = i .limits s .0 (omega arith) } in
       let counted = totals (batchesOf r) 1 (paymentsOf r) (centsOf r rec) in
       let moved : next r s rec ≡ state (after r) d b n x (add y counted) =
-      i .moves rec ∙ ap (λ (c : Totals). state (after r) d b n x (add y c)) (sym (counts-are r rec)) in
+      i .moves s rec ∙ ap (λ (c : Totals). state (after r) d b n x (add y c)) (sym (counts-are r rec)) in
       let first : Through s (l ∷ []) (state (after r) d b n x (add y counted)) = rw (← moved) (one at f fit) in
       let z = i .opens in
       let rest = details-through (add y counted) t ds (omega arith) (omega arith) (through-reached at first) in
@@ -174,12 +119,6 @@ batches-through {d = d} {n = n} x (batch {ls = ls} {t = t} {u = u} w ws) f stop 
     let later = batches-through (add x t) ws next-batch (λ z. here) (omega arith) (omega arith) (omega arith) (through-reached at first) in
     rw (← add-assoc x t u) (through-append first later)
 
--- they count their lines
-batches-records : {d : Direction} {n m : ℕ} {ls : List (List ℕ)} {t : Totals} → Batches d n m ls t → t .records .0 ≡ length ls
-unfolding add
-batches-records no-batches = refl
-batches-records (batch {ls = ls} {ms = ms} w ws) = rw (length-append ls ms, ← batches-records ws, w .are)
-
 -- ---- a file
 
 -- the header, the batches and the trailer
@@ -197,7 +136,7 @@ built {ls} {t} w =
     (through-reached at-start first) in
     let inside = through-append first batches in
     let long : length ls ≡ 1 + w .inside .records .0 + 1 =
-    rw (w .lines, length-append (w .middle) (w .trailer ∷ [])) (omega (arith, batches-records (w .batches-right))) in
+    rw (w .lines, length-append (w .middle) (w .trailer ∷ [])) (omega (arith, batches-long (w .batches-right))) in
     let s = state Closed (w .direction) Unknown (w .bank) (add x (w .inside)) none in
     let e = w .trailer-right in
     let ending : Fits FileTrailer s (w .trailer) =

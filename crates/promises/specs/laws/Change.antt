@@ -13,10 +13,11 @@ use Rattle.layout.specs.Table.{typeOf, typePlace, segmentPlace, recordBytes, ba
 use Rattle.layout.specs.declared.Direction.{Direction}
 use Rattle.layout.specs.declared.Record.{Record}
 use Rattle.layout.specs.declared.Record.the-variants.{FileHeader, SegmentJ}
-use Rattle.checker.specs.Line.{lineBytes, recordIn, lineIs}
+use Rattle.checker.specs.Line.{lineBytes, recordIn, lineIs, lineFrom}
 use Rattle.checker.specs.Machine.{start}
 use Rattle.checker.specs.File.{linesOf, checkFile}
 use Rattle.checker.specs.Calls.{at-start, left}
+use Rattle.checker.specs.laws.Details.{asked, detail-of}
 use Rattle.checker.specs.laws.Runs.{no-lines, next-line, lines-append}
 use Rattle.checker.specs.laws.Verdict.{Passed, accepted-file}
 use Rattle.checker.specs.declared.order.Due.the-variants.{Line}
@@ -24,12 +25,11 @@ use Rattle.checker.specs.declared.totals.Totals.{Totals}
 use Rattle.checker.specs.declared.Checker.{Checker}
 use Rattle.checker.specs.declared.file.Outcome.{Outcome}
 use Rattle.checker.specs.declared.file.Outcome.the-variants.{Accepted, Refused}
-use Rattle.writer.specs.Filling.{lineFrom}
 use Rattle.promises.specs.Grammar.{RightLine}
 use Rattle.promises.specs.Guarded.{On, In, Guarded, line-end, first-eight, detail, fixed, credit-amount, boleto-values, boleto-amount, batch-trailer, file-trailer, barcode, lineAt, GuardedIn, changed}
-use Rattle.promises.specs.laws.Facts.{asked, either-direction}
+use Rattle.promises.specs.laws.Facts.{either-direction}
 use Rattle.promises.specs.laws.Differ.{Differ, stored}
-use Rattle.promises.specs.laws.Records.{BankFirst, bank-first, detail-of}
+use Rattle.promises.specs.laws.Records.{BankFirst, bank-first}
 use Rattle.promises.specs.laws.SameLine.{Among, this, later, either, not-asked, listed-inside, not-fixed, not-letter}
 use Rattle.promises.specs.laws.SameBoleto.{in-barcode, not-values, not-paid, not-barcode}
 use Rattle.promises.specs.laws.Behind.{Ends, Goes, goes, behind, by-first}

@@ -84,11 +84,8 @@ module _ {p : ℕ} {xs ys : List ℕ} (d : Differ p xs ys) (f : Field) where
           rw (getD-take (f .to - at) (drop at xs) i 0 k, getD-take (f .to - at) (drop at ys) i 0 k, getD-drop, getD-drop, q)
           (d .other (at + i + 1) (omega arith) (λ e. out (omega arith)))
 
-  -- a field of digits that have one value does not hold the place, nor one of fixed content
+  -- a field of digits that have one value does not hold the place
   pub not-worth : f .to - (f .from - 1) ≤ mostDigits → allDigits (part f xs) ≡ true → allDigits (part f ys) ≡ true → value (part f xs) ≡ value (part f ys)
       → In f p → ⊥
   not-worth few h k e =
       apart (value-same (part f xs) (part f ys) same-long (omega (arith, length-take (f .to - (f .from - 1)) (drop (f .from - 1) xs))) h k e)
-
-  pub not-content : (content : ℕ → List ℕ) → isFixed content (part f xs) ≡ true → isFixed content (part f ys) ≡ true → In f p → ⊥
-  not-content content h k = apart (content-same content (part f xs) (part f ys) same-long h k)

@@ -8,7 +8,8 @@ use native.Mathlib.Omega.{arith}
 use lib.ListN.{length, length-append}
 use Rattle.answer.specs.Rules.{Rule, firstBroken}
 use Rattle.answer.specs.Output.{Writes, room}
-use Rattle.answer.specs.laws.Order.{broken-refused}
+use Rattle.answer.specs.laws.Order.{never, broken-refused}
+use Rattle.answer.specs.laws.Only.{Only, join}
 use Rattle.answer.specs.declared.Refusal.{Refusal}
 use Rattle.answer.specs.declared.Answer.{Answer}
 use Rattle.answer.specs.declared.Answer.the-variants.{Accepted, Refused}
@@ -36,7 +37,7 @@ use Rattle.writer.specs.laws.Sequences as writer
 use Rattle.writer.specs.declared.Writer.{Writer}
 use Rattle.writer.specs.declared.Written.{Written}
 use Rattle.promises.specs.Calls.{table, InTable, Ends, Concludes, accepted, refused, OnNoLine, nothing, OneOfNext, EndsBehind, CheckerCalls, WriterCalls, RecordCalls, StringCalls}
-use Rattle.promises.specs.laws.Tabled.{Only, join, Alone, tested, record-rules, line-rules, barcode-rules, digit-line-rules, call-rules}
+use Rattle.promises.specs.laws.Tabled.{Alone, tested, record-rules, line-rules, barcode-rules, digit-line-rules, call-rules}
 
 -- ---- by rules of the table that are on no line
 
@@ -132,7 +133,7 @@ checker-calls c = record { line = line-ends c; lines = λ part. many (linesOf pa
 module _ {w : Writer} (ok : held (w .machine) ≡ true) where
   -- the line of a refusal
   placed : {c : Call} {r : Refusal} → Placed w c r → OneOfNext (length (recordsOf c)) (w .machine) (r .line .0)
-  placed (on-no-line q e) = absurd (let z : _≡_ {A = ℕ} 0 1 = cc in omega arith)
+  placed (on-no-line q e) = never (sym q ∙ ok)
   placed (on-a-line q low high) = (low, high)
 
   -- a call's rules answer

@@ -1,21 +1,22 @@
 -- Changes that only later lines show: the file header's bank, a note for a payment's first record, the amount of a credit. Assumes nothing.
 use mathlib.Core.Path.{_≡_, refl, sym, ap, _∙_, subst, subst₂}
 use mathlib.Core.Logic.{_≢_, _⊎_, inl, inr, ⊎-elim}
-use mathlib.Core.Bool.{true, false}
+use mathlib.Core.Bool.{true}
 use mathlib.Core.List.{List, [], _∷_}
 use Prim.Native.Nat.{ℕ}
 use native.Mathlib.Omega.{arith}
 use borrow.Author.Tests.{eqb-true}
 use lib.Dec.{eqb, lit≤}
-use lib.ListN.{length, getD}
+use lib.ListN.{length}
 use Rattle.answer.specs.Rules.{AllKept}
+use Rattle.answer.specs.laws.Order.{never}
 use Rattle.digits.specs.Digits.{digitByte, place, places}
 use Rattle.layout.specs.Table.{typeOf, typePlace, fieldsOf, bankField, creditAmount}
 use Rattle.layout.specs.Kinds.{run, blank, isFixed, oneOf}
 use Rattle.layout.specs.laws.Bytes.{and-left, same-true}
 use Rattle.layout.specs.declared.Direction.{Direction}
 use Rattle.layout.specs.declared.Record.{Record}
-use Rattle.layout.specs.declared.Record.the-variants.{FileHeader, BatchHeader, SegmentA, SegmentZ, BatchTrailer}
+use Rattle.layout.specs.declared.Record.the-variants.{FileHeader, BatchHeader, SegmentA, SegmentB, SegmentZ, BatchTrailer}
 use Rattle.layout.specs.declared.pairs.Batch.{Batch}
 use Rattle.checker.specs.Order.{ended}
 use Rattle.checker.specs.Totals.{add}
@@ -26,15 +27,13 @@ use Rattle.checker.specs.declared.order.Phase.the-variants.{Headed, Begun, Note
 use Rattle.checker.specs.declared.Checker.{Checker}
 use Rattle.promises.specs.Grammar.{RightLine}
 use Rattle.promises.specs.Guarded.{In}
-use Rattle.promises.specs.laws.Edges.{Begins, by-A, by-J, by-B, by-J52, Follows, first-batch, goes-on, notes, pays-behind, pays-noted, closes-paid, closes-noted}
-use Rattle.promises.specs.laws.Facts.{AllRead, Fits}
+use Rattle.checker.specs.laws.Edges.{Begins, by-A, by-J, by-B, by-J52, Follows, first-batch, goes-on, notes, pays-behind, pays-noted, closes-paid, closes-noted, begins-detail, begins-moves}
+use Rattle.checker.specs.laws.Details.{AllRead, Open, at-begun, at-paid, at-noted, detail-of}
+use Rattle.checker.specs.laws.Asks.{letter-at}
+use Rattle.promises.specs.laws.Facts.{Fits}
 use Rattle.promises.specs.laws.Differ.{Differ, not-worth}
-use Rattle.promises.specs.laws.Records.{Open, at-begun, at-paid, at-noted, detail-of}
 use Rattle.promises.specs.laws.SameLine.{right-at}
 use Rattle.promises.specs.laws.Behind.{Ends, Goes, goes, at-last}
-
-never : {A : Type 0} → false ≡ true → A
-never e = absurd (let z : _≡_ {A = ℕ} 0 1 = cc in omega arith)
 
 follows-at : {d : Direction} {b c : Batch} {p q : Phase} {r : Record} → b ≡ c → p ≡ q → Follows d b p r → Follows d c q r
 follows-at {d} {r = r} e h f = subst₂ (λ (x : Batch) (y : Phase). Follows d x y r) e h f
@@ -75,8 +74,7 @@ not-second : {d d′ e e′ : Direction} {b : Batch} {r r′ : Record} (l : List
     → place typePlace (recordIn l) ≡ typeOf r → place typePlace (recordIn l) ≡ typeOf r′ → RightLine r e l → RightLine r′ e′ l → ⊥
 unfolding fieldsOf AllKept
 not-second l (goes-on by-B) (pays-noted by-A) t t′ a a′ =
-    let same = same-true (66 ∷ []) _ (right-at a 4 (lit≤ tt) .0) ∙ sym (same-true (65 ∷ []) _ (right-at a′ 4 (lit≤ tt) .0)) in
-    omega (arith, ap (λ (w : List ℕ). getD w 0 0) same)
+    omega (arith, letter-at SegmentB _ (recordIn l) (a .fields) refl refl, letter-at SegmentA _ (recordIn l) (a′ .fields) refl refl)
 not-second l (goes-on by-J52) (pays-noted by-J) t t′ a a′ = blank-or-digit (places 15 15 (recordIn l)) (right-at a 5 (lit≤ tt) .0) (right-at a′ 5 (lit≤ tt) .0)
 not-second l (goes-on by-B) closes-noted t t′ a a′ = omega arith
 not-second l (goes-on by-J52) closes-noted t t′ a a′ = omega arith
@@ -90,18 +88,10 @@ begun-or-noted (l ∷ ls) p p′ q q′ e e′ =
     let g′ = goes e′ .1 in
     not-second l (follows-at q p (g .follows)) (follows-at q′ p′ (g′ .follows)) (g .typed) (g′ .typed) (g .fitting .right) (g′ .fitting .right)
 
-begun : {b : Batch} {r : Record} → Begins b r → (s : Checker) (rec : List ℕ) → (next r s rec .phase ≡ Begun) × (next r s rec .batch ≡ s .batch)
-begun by-A s rec = (refl, refl)
-begun by-J s rec = (refl, refl)
-
 pub not-noted : {r : Record} {s : Checker} {ls : List (List ℕ)} (l l′ : List ℕ) → Begins (s .batch) r → Goes r s l ls → Goes SegmentZ s l′ ls → ⊥
-not-noted {s} {ls} l l′ h g g′ = let k = begun h s (recordIn l) in begun-or-noted ls (k .0) refl (k .1) refl (g .rest) (g′ .rest)
+not-noted {s} {ls} l l′ h g g′ = let k = begins-moves s (recordIn l) h in begun-or-noted ls (k .phase) refl (k .batch) refl (g .rest) (g′ .rest)
 
 -- ---- the amount of a credit: the batch trailer has the sum
-
-pub begins-detail : {b : Batch} {r : Record} → Begins b r → typeOf r ≡ digitByte 3
-begins-detail by-A = refl
-begins-detail by-J = refl
 
 -- behind a detail
 trailer-or-detail : {d : Direction} {b : Batch} {p : Phase} {r : Record} → Open p → Follows d b p r → (r ≡ BatchTrailer) ⊎ (typeOf r ≡ digitByte 3)

@@ -23,13 +23,13 @@ use Rattle.checker.specs.declared.order.Phase.{Phase}
 use Rattle.checker.specs.declared.Checker.{Checker}
 use Rattle.promises.specs.Grammar.{RightLine}
 use Rattle.promises.specs.Guarded.{In}
-use Rattle.promises.specs.laws.Edges.{Begins, by-A, by-J, GoesOn, by-B, by-J52, Follows, heads, first-batch, first-payment, goes-on, notes, pays-behind, pays-noted, closes-paid, closes-noted, next-batch, ends}
-use Rattle.promises.specs.laws.Facts.{Asked, AllRead, Fits}
+use Rattle.checker.specs.laws.Edges.{Begins, by-A, by-J, GoesOn, by-B, by-J52, Follows, heads, first-batch, first-payment, goes-on, notes, pays-behind, pays-noted, closes-paid, closes-noted, next-batch, ends, begins-detail}
+use Rattle.checker.specs.laws.Details.{Asked, AllRead, detail-of}
+use Rattle.promises.specs.laws.Facts.{Fits}
 use Rattle.promises.specs.laws.Differ.{Differ, turned, kept}
-use Rattle.promises.specs.laws.Records.{detail-of}
 use Rattle.promises.specs.laws.SameLine.{right-at}
 use Rattle.promises.specs.laws.Behind.{Goes}
-use Rattle.promises.specs.laws.NextLine.{begins-detail, not-noted}
+use Rattle.promises.specs.laws.NextLine.{not-noted}
 
 -- ---- two records that may follow at one state
 
@@ -95,7 +95,7 @@ module _ {p : ℕ} (s : Checker) (l l′ : List ℕ) (d : Differ p (recordIn l) 
       → numberOf (part numberField (recordIn l)) ≡ numberOf (part numberField (recordIn l′)) → ⊥
   unfolding AllRead
   not-closes {r} e f f′ same =
-      let numbers = subst (λ (k : Asked). AllRead k l) (detail-of r e .asks s) (f .numbers) in
+      let numbers = subst (λ (k : Asked). AllRead k (recordIn l)) (detail-of r e .asks s) (f .numbers) in
       let z : _≡_ {A = ℕ} 0 1 = cc (numbers .1 .1 .0, blank-number l′ (f′ .right)) in
       omega arith
 

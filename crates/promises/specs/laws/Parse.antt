@@ -7,6 +7,7 @@ use native.Mathlib.Nat.{add-zero}
 use native.Mathlib.Omega.{arith}
 use lib.ListN.{length, length-append}
 use Rattle.answer.specs.Limits.{fileCents}
+use Rattle.answer.specs.laws.Order.{never}
 use Rattle.digits.specs.Digits.{digitByte}
 use Rattle.digits.specs.Numbers.{value}
 use Rattle.layout.specs.Table.{part, typeOf, bankField, batchRecords, batchSum, fileBatches, fileRecords}
@@ -27,12 +28,12 @@ use Rattle.checker.specs.declared.Checker.{Checker}
 use Rattle.checker.specs.laws.Kept.{kept-bounded}
 use Rattle.checker.specs.laws.Reached.{reached-kept}
 use Rattle.checker.specs.laws.Verdict.{through-reached}
-use Rattle.writer.specs.laws.Due.{never}
-use Rattle.writer.specs.laws.Counted.{Same, same-totals}
-use Rattle.promises.specs.Grammar.{RightLine, Reads, Numbered, Details, no-details, detail, RightBatch, Batches, no-batches, batch, RightFile}
-use Rattle.promises.specs.laws.Edges.{Begins, by-A, by-J, GoesOn, by-B, by-J52, Follows, heads, first-batch, first-payment, goes-on, notes, pays-behind, pays-noted, closes-paid, closes-noted, next-batch, ends, follows-by}
-use Rattle.promises.specs.laws.Facts.{inDetail, AllRead, Fits, taken, header-bank, either-direction}
-use Rattle.promises.specs.laws.Shape.{Tail, stops-paid, stops-noted, steps, tail-payments}
+use Rattle.checker.specs.laws.Sums.{Same, same-totals}
+use Rattle.promises.specs.Grammar.{Reads, Numbered, Details, no-details, detail, RightBatch, Batches, no-batches, batch, RightFile}
+use Rattle.checker.specs.laws.Edges.{Begins, by-A, by-J, GoesOn, by-B, by-J52, Follows, heads, first-batch, first-payment, goes-on, notes, pays-behind, pays-noted, closes-paid, closes-noted, next-batch, ends, follows-by}
+use Rattle.checker.specs.laws.Details.{inDetail, AllRead, detail-of}
+use Rattle.promises.specs.laws.Facts.{Fits, taken, header-bank, either-direction}
+use Rattle.promises.specs.laws.Shape.{batches-long, Tail, stops-paid, stops-noted, steps, tail-payments}
 
 -- ---- what is left of a file behind a state
 
@@ -77,12 +78,6 @@ Left Paid s ls t = Within Paid s ls t
 Left Noted s ls t = Within Noted s ls t
 Left Closed s ls t = Same (s .current) none → Later (s .dir) (s .bank) (s .closed) ls t
 Left Ended s ls t = (ls ≡ []) × (t ≡ s .closed)
-
--- batches count their lines
-batches-long : {d : Direction} {bank n : ℕ} {ls : List (List ℕ)} {t : Totals} → Batches d bank n ls t → t .records .0 ≡ length ls
-unfolding add
-batches-long no-batches = refl
-batches-long (batch {ls = ls} {ms} b on) = omega (arith, length-append ls ms, ap (λ (t : Totals). t .records .0) (b .are), batches-long on)
 
 -- ---- one line
 
@@ -136,10 +131,13 @@ module _ (s : Checker) (l : List ℕ) (ls : List (List ℕ)) (t : Totals) where
       state (after r) (s .dir) (s .batch) (s .bank) (s .closed) (add (s .current) (totals (batchesOf r) 1 (paymentsOf r) (centsOf r (recordIn l))))
 
   -- a detail
-  detail-by : {p : Phase} {r : Record} → Follows (s .dir) (s .batch) p r → typeOf r ≡ digitByte 3 → batchesOf r ≡ 0 → RightLine r (s .dir) l
-      → AllRead (inDetail s) l → Within (after r) (counting r) ls t → Within p s (l ∷ ls) t
+  detail-by : {p : Phase} {r : Record} → Follows (s .dir) (s .batch) p r → typeOf r ≡ digitByte 3 → Fits r s l → Within (after r) (counting r) ls t
+      → Within p s (l ∷ ls) t
   unfolding add AllRead
-  detail-by {p} {r} f type opens right n y =
+  detail-by {p} {r} f type x y =
+      let o = detail-of r type in
+      let n : AllRead (inDetail s) (recordIn l) = rw (o .asks s) at (x .numbers) in
+      let opens = o .opens in
       record {
         details = l ∷ y .details;
         trailer = y .trailer;
@@ -150,7 +148,7 @@ module _ (s : Checker) (l : List ℕ) (ls : List (List ℕ)) (t : Totals) where
         sum = y .sum;
         lines = ap (λ (ls : List (List ℕ)). l ∷ ls) (y .lines);
         shape = steps f type (y .shape);
-        details-right = detail (record { right = right; bank-is = n .0; batch-is = n .1 .0 }) (n .1 .1 .0) (y .details-right);
+        details-right = detail (record { right = x .right; bank-is = n .0; batch-is = n .1 .0 }) (n .1 .1 .0) (y .details-right);
         trailer-right = y .trailer-right;
         counted = y .counted;
         summed = y .summed;
@@ -161,12 +159,12 @@ module _ (s : Checker) (l : List ℕ) (ls : List (List ℕ)) (t : Totals) where
 
   -- the first record of a payment, and the second
   begins-by : {b : Batch} {p : Phase} {r : Record} → Begins b r → Follows (s .dir) (s .batch) p r → Fits r s l → Behind r → Within p s (l ∷ ls) t
-  begins-by by-A f x on = detail-by f refl refl (x .right) (x .numbers) on
-  begins-by by-J f x on = detail-by f refl refl (x .right) (x .numbers) on
+  begins-by by-A f x on = detail-by f refl x on
+  begins-by by-J f x on = detail-by f refl x on
 
   goes-on-by : {b : Batch} {r : Record} → GoesOn b r → Follows (s .dir) (s .batch) Begun r → Fits r s l → Behind r → Within Begun s (l ∷ ls) t
-  goes-on-by by-B f x on = detail-by f refl refl (x .right) (x .numbers) on
-  goes-on-by by-J52 f x on = detail-by f refl refl (x .right) (x .numbers) on
+  goes-on-by by-B f x on = detail-by f refl x on
+  goes-on-by by-J52 f x on = detail-by f refl x on
 
   -- a batch's header: with what is left of the batch it is a batch ..
   right-batch : Same (s .current) none → Fits BatchHeader s l → (y : Behind BatchHeader)
@@ -254,7 +252,7 @@ module _ (s : Checker) (l : List ℕ) (ls : List (List ℕ)) (t : Totals) where
   left-by h first-batch x on = opened-by x on
   left-by h (first-payment f) x on = begins-by f (first-payment f) x on
   left-by h (goes-on f) x on = goes-on-by f (goes-on f) x on
-  left-by h (notes e) x on = detail-by (notes e) refl refl (x .right) (x .numbers) on
+  left-by h (notes e) x on = detail-by (notes e) refl x on
   left-by h (pays-behind f) x on = begins-by f (pays-behind f) x on
   left-by h (pays-noted f) x on = begins-by f (pays-noted f) x on
   left-by h closes-paid x on = closed-by h stops-paid x on

@@ -1,51 +1,20 @@
--- The records, a row each: what all details share, what all lines but the file header share, and what no line takes back. Assumes nothing.
+-- The records, a row each: what all lines but the file header ask first, and what no line takes back. Assumes nothing.
 use mathlib.Core.Path.{_≡_, refl}
 use mathlib.Core.Logic.{_⊎_, inl, inr}
-use mathlib.Core.List.{List, _∷_, List·Memᴰ, List·Memᴰ·head, List·Memᴰ·tail}
+use mathlib.Core.List.{List, _∷_}
 use Prim.Native.Nat.{ℕ, _≤_}
 use native.Mathlib.Omega.{arith}
-use Rattle.digits.specs.Digits.{digitByte}
-use Rattle.layout.specs.Table.{Field, typeOf, fieldsOf, bankField, batchField, segmentField}
+use Rattle.layout.specs.Table.{bankField, batchField}
 use Rattle.layout.specs.declared.Direction.{Direction}
 use Rattle.layout.specs.declared.Record.{Record}
 use Rattle.layout.specs.declared.Record.the-variants.{FileHeader, BatchHeader, SegmentA, SegmentB, SegmentJ, SegmentJ52, SegmentZ, BatchTrailer, FileTrailer}
 use Rattle.layout.specs.declared.pairs.Batch.{Batch}
-use Rattle.checker.specs.Order.{after}
-use Rattle.checker.specs.Machine.{inBatch, next}
+use Rattle.checker.specs.Machine.{next}
 use Rattle.checker.specs.laws.Kept.{stage}
 use Rattle.checker.specs.declared.order.Phase.{Phase}
-use Rattle.checker.specs.declared.order.Phase.the-variants.{Begun, Paid, Noted}
 use Rattle.checker.specs.declared.Checker.{Checker}
-use Rattle.promises.specs.laws.Edges.{Follows, heads}
-use Rattle.promises.specs.laws.Facts.{Asked, inDetail, asked}
-
--- the phases behind details
-pub data Open : Phase → Type 0 where
-  at-begun : Open Begun
-  at-paid : Open Paid
-  at-noted : Open Noted
-
-pub record Detail (r : Record) : Type 0 where
-  pub asks : (s : Checker) → asked r s ≡ inDetail s
-  pub letter : ℕ
-  pub listed : List·Memᴰ (segmentField letter) (fieldsOf r)
-  pub stays : Open (after r)
-  pub moves : (s : Checker) (rec : List ℕ) → next r s rec ≡ inBatch r (s .batch) s rec
-
-fifth : {a b c e f : Field} {fs : List Field} → List·Memᴰ f (a ∷ b ∷ c ∷ e ∷ f ∷ fs)
-fifth = List·Memᴰ·tail (List·Memᴰ·tail (List·Memᴰ·tail (List·Memᴰ·tail (List·Memᴰ·head refl))))
-
-pub detail-of : (r : Record) → typeOf r ≡ digitByte 3 → Detail r
-unfolding fieldsOf
-detail-of FileHeader e = absurd (omega arith)
-detail-of BatchHeader e = absurd (omega arith)
-detail-of SegmentA e = record { asks = λ s. refl; letter = 65; listed = fifth; stays = at-begun; moves = λ s rec. refl }
-detail-of SegmentB e = record { asks = λ s. refl; letter = 66; listed = fifth; stays = at-paid; moves = λ s rec. refl }
-detail-of SegmentJ e = record { asks = λ s. refl; letter = 74; listed = fifth; stays = at-begun; moves = λ s rec. refl }
-detail-of SegmentJ52 e = record { asks = λ s. refl; letter = 74; listed = fifth; stays = at-paid; moves = λ s rec. refl }
-detail-of SegmentZ e = record { asks = λ s. refl; letter = 90; listed = fifth; stays = at-noted; moves = λ s rec. refl }
-detail-of BatchTrailer e = absurd (omega arith)
-detail-of FileTrailer e = absurd (omega arith)
+use Rattle.checker.specs.laws.Edges.{Follows, heads}
+use Rattle.checker.specs.laws.Details.{Asked, asked}
 
 -- what a line asks first
 abbrev pub BankFirst : Record → Type 0

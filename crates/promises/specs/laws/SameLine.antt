@@ -1,26 +1,26 @@
 -- Two right lines, read as one record at one state, that differ at one place: it isn't a place of a number that the state gives, of fixed content
 -- or of the letter. Assumes nothing.
-use mathlib.Core.Path.{_≡_, sym, subst}
-use mathlib.Core.List.{List, [], _∷_, List·Memᴰ, List·Memᴰ·head, List·Memᴰ·tail}
+use mathlib.Core.Path.{_≡_, sym, subst, _∙_}
+use mathlib.Core.List.{List, [], _∷_, List·Memᴰ}
 use Prim.Native.Nat.{ℕ, suc, _≤_, _<_}
 use native.Mathlib.Decide.{decLe}
 use native.Mathlib.Omega.{arith}
 use lib.ListN.{length, getD}
 use Rattle.answer.specs.Rules.{AllKept}
 use Rattle.answer.specs.laws.Order.{kept-front, kept-behind}
-use Rattle.digits.specs.Digits.{digitByte}
-use Rattle.layout.specs.Table.{Kind, Field, typeOf, fieldsOf, none, segmentPlace, segmentField}
+use Rattle.digits.specs.Digits.{digitByte, place}
+use Rattle.layout.specs.Table.{Kind, Field, typeOf, fieldsOf, none, segmentPlace}
 use Rattle.layout.specs.Kinds.{aPart, means, run, blank, text}
 use Rattle.layout.specs.Record.{fieldRules, rulesOf}
-use Rattle.layout.specs.laws.Tiling.{All, at, Inside, insides}
+use Rattle.layout.specs.laws.Tiling.{All, at, of-member, Inside, insides}
 use Rattle.layout.specs.declared.Direction.{Direction}
 use Rattle.layout.specs.declared.Record.{Record}
 use Rattle.checker.specs.Line.{recordIn}
 use Rattle.promises.specs.Grammar.{RightLine}
 use Rattle.promises.specs.Guarded.{On, In, Fixed, blanks, zeros, exact, optional}
-use Rattle.promises.specs.laws.Facts.{Asked, AllRead}
-use Rattle.promises.specs.laws.Records.{detail-of}
-use Rattle.promises.specs.laws.Differ.{Differ, same-long, apart, reads-same, content-same, not-content}
+use Rattle.checker.specs.laws.Details.{Asked, AllRead, detail-of}
+use Rattle.checker.specs.laws.Asks.{letter-at}
+use Rattle.promises.specs.laws.Differ.{Differ, same-long, apart, reads-same, content-same}
 
 -- ---- numbers that the state gives
 
@@ -37,7 +37,7 @@ either {f} {g} {j} {k} {p} {more} e h = go (decLe p (f .to))
     go (yes m) = this (h .0, m)
     go (no m) = let k : In g p = omega arith in later (this k)
 
-pub not-asked : {p : ℕ} {fs : Asked} (l l′ : List ℕ) → Differ p (recordIn l) (recordIn l′) → Among p fs → AllRead fs l → AllRead fs l′ → ⊥
+pub not-asked : {p : ℕ} {fs : Asked} (l l′ : List ℕ) → Differ p (recordIn l) (recordIn l′) → Among p fs → AllRead fs (recordIn l) → AllRead fs (recordIn l′) → ⊥
 unfolding AllRead
 not-asked l l′ d (this {a} h) k k′ = apart d (a .0) (reads-same _ _ (same-long d (a .0)) (k .0) (k′ .0)) h
 not-asked l l′ d (later w) k k′ = not-asked l l′ d w (k .1) (k′ .1)
@@ -51,11 +51,6 @@ each-right : (fs : List Field) (dir : Direction) (rec : List ℕ) → AllKept (r
 unfolding rulesOf All
 each-right [] dir rec k = tt
 each-right (f ∷ fs) dir rec k = (kept-front (fieldRules f dir rec) _ k, each-right fs dir rec (kept-behind (fieldRules f dir rec) _ k))
-
-of-member : (P : Field → Type 0) {f : Field} {fs : List Field} → List·Memᴰ f fs → All P fs → P f
-unfolding All
-of-member P (List·Memᴰ·head e) h = subst P (sym e) (h .0)
-of-member P (List·Memᴰ·tail m) h = of-member P m (h .1)
 
 pub listed-inside : {f : Field} (r : Record) → List·Memᴰ f (fieldsOf r) → Inside f
 listed-inside r m = of-member Inside m (insides r)
@@ -87,7 +82,7 @@ module _ {p : ℕ} {r : Record} {dir : Direction} {l l′ : List ℕ}
   not-fixed {f} m k = apart d f (fixed-same k (f .from) _ _ _ _ (same-long d f) (right-of a m) (right-of a′ m))
 
   pub not-letter : typeOf r ≡ digitByte 3 → p ≡ segmentPlace → ⊥
-  unfolding AllKept
   not-letter e h =
-      let x = detail-of r e in
-      not-content d (segmentField (x .letter)) (text (x .letter ∷ [])) (right-of a (x .listed) .0) (right-of a′ (x .listed) .0) (omega arith)
+      let m = detail-of r e .marked in
+      let same = letter-at r dir (recordIn l) (a .fields) e m ∙ sym (letter-at r dir (recordIn l′) (a′ .fields) e m) in
+      d .here (subst (λ (q : ℕ). place q (recordIn l) ≡ place q (recordIn l′)) (sym h) same)

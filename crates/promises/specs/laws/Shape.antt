@@ -1,10 +1,12 @@
--- The details of a batch, edge by edge from a phase on, are its payments. Assumes nothing.
-use mathlib.Core.Path.{_≡_, refl}
+-- The lines of batches are counted; the details of a batch, edge by edge from a phase on, are its payments. Assumes nothing.
+use mathlib.Core.Path.{_≡_, refl, ap}
 use mathlib.Core.Bool.{true}
 use mathlib.Core.List.{List, [], _∷_, _++_}
 use Prim.Native.Nat.{ℕ, _+_, _≤_}
 use native.Mathlib.Nat.{add-zero}
 use native.Mathlib.Omega.{arith}
+use lib.ListN.{length, length-append}
+use Rattle.answer.specs.laws.Order.{never}
 use Rattle.digits.specs.Digits.{digitByte}
 use Rattle.layout.specs.Pairs.{known}
 use Rattle.layout.specs.Table.{typeOf}
@@ -14,12 +16,18 @@ use Rattle.layout.specs.declared.Record.the-variants.{SegmentA, SegmentB, Segme
 use Rattle.layout.specs.declared.pairs.Batch.{Batch}
 use Rattle.layout.specs.declared.pairs.Batch.the-variants.{Credit, Boleto, Unknown}
 use Rattle.checker.specs.Order.{payment, after}
-use Rattle.checker.specs.Totals.{paymentsOf}
+use Rattle.checker.specs.Totals.{add, paymentsOf}
+use Rattle.checker.specs.declared.totals.Totals.{Totals}
 use Rattle.checker.specs.declared.order.Phase.{Phase}
 use Rattle.checker.specs.declared.order.Phase.the-variants.{Start, Headed, Opened, Begun, Paid, Noted, Closed, Ended}
-use Rattle.writer.specs.laws.Due.{never}
-use Rattle.promises.specs.Grammar.{Note, no-note, note, Payments, no-payments, pay}
-use Rattle.promises.specs.laws.Edges.{Begins, by-A, by-J, GoesOn, by-B, by-J52, Follows, heads, first-batch, first-payment, goes-on, notes, pays-behind, pays-noted, closes-paid, closes-noted, next-batch, ends}
+use Rattle.promises.specs.Grammar.{Batches, no-batches, batch, Note, no-note, note, Payments, no-payments, pay}
+use Rattle.checker.specs.laws.Edges.{Begins, by-A, by-J, GoesOn, by-B, by-J52, Follows, heads, first-batch, first-payment, goes-on, notes, pays-behind, pays-noted, closes-paid, closes-noted, next-batch, ends}
+
+-- batches count their lines
+pub batches-long : {d : Direction} {bank n : ℕ} {ls : List (List ℕ)} {t : Totals} → Batches d bank n ls t → t .records .0 ≡ length ls
+unfolding add
+batches-long no-batches = refl
+batches-long (batch {ls = ls} {ms} b on) = omega (arith, length-append ls ms, ap (λ (t : Totals). t .records .0) (b .are), batches-long on)
 
 -- so many payments, from a phase up to where the batch may close
 pub data Tail (d : Direction) (b : Batch) : Phase → ℕ → List Record → Type 0 where

@@ -1,19 +1,18 @@
 -- Every rule that a call is refused by names a number and a place of the table: the rules of a record, of a line, of digit strings and of the
 -- writer's calls. Where all is known but the bytes, antt computes it. Assumes nothing.
-use mathlib.Core.Path.{_≡_, refl, sym, _∙_, subst}
-use mathlib.Core.Bool.{Bool, true, false, cond, _&&_}
+use mathlib.Core.Path.{_≡_, refl}
+use mathlib.Core.Bool.{Bool, true, false, _&&_}
 use mathlib.Core.List.{List, [], _∷_, _++_}
 use Prim.Native.Nat.{ℕ, suc, _+_, _≤_}
 use native.Mathlib.Omega.{arith}
 use borrow.Author.Tests.{eqb-true, eqb-false, le-leb}
 use lib.Dec.{T, eqb, eqb→eq, lit≤}
 use lib.ListN.{length, drop, length-take}
-use Rattle.answer.specs.Rules.{Rule, refusal, rule, firstBroken, andThen, onLine, rulesOnLine}
-use Rattle.answer.specs.laws.Order.{first-append, first-on-line}
+use Rattle.answer.specs.Rules.{Rule, rule, rulesOnLine}
+use Rattle.answer.specs.laws.Only as only
+use Rattle.answer.specs.laws.Only.{Only, none, first, more, join}
 use Rattle.answer.specs.declared.LineNo.{LineNo}
 use Rattle.answer.specs.declared.Refusal.{Refusal}
-use Rattle.answer.specs.declared.Answer.{Answer}
-use Rattle.answer.specs.declared.Answer.the-variants.{Accepted, Refused}
 use Rattle.digits.specs.Digits.{leading, allDigits}
 use Rattle.digits.specs.laws.Strings.{leading-le}
 use Rattle.digits.specs.laws.Tests.{both}
@@ -43,43 +42,6 @@ use Rattle.writer.specs.declared.given.Detail.{Detail}
 use Rattle.writer.specs.declared.Writer.{Writer}
 use Rattle.promises.specs.Calls.{table, upTo, allowed, placesOf, InTable}
 
--- ---- rules whose refusals are of some kind
-
--- whatever is refused by these rules is so
-pub record Only (P : Refusal → Type 0) (rs : List Rule) : Type 0 where
-  pub broken : (r : Refusal) → firstBroken rs ≡ Refused r → P r
-
--- an acceptance is no refusal
-never : {A : Type 0} {r : Refusal} → Accepted ≡ Refused r → A
-never e = absurd (let z : _≡_ {A = ℕ} 0 1 = cc in omega arith)
-
-module _ {P : Refusal → Type 0} where
-  -- no rules
-  none : Only P []
-  unfolding firstBroken
-  none = record { broken = λ r e. never e }
-
-  -- one rule, so where it is broken, and others, so where it is kept
-  first : (x : Rule) {rs : List Rule} → (x .kept ≡ false → P (x .refused)) → (x .kept ≡ true → Only P rs) → Only P (x ∷ rs)
-  unfolding firstBroken
-  first x {rs} here later = record { broken = λ r e. go r (x .kept) refl e }
-    where
-      go : (r : Refusal) (k : Bool) → x .kept ≡ k → cond k (firstBroken rs) (Refused (x .refused)) ≡ Refused r → P r
-      go r true q e = later q .broken r e
-      go r false q e = subst P (cc) (here q)
-
-  -- the same whether it is broken or kept
-  more : {x : Rule} {rs : List Rule} → P (x .refused) → Only P rs → Only P (x ∷ rs)
-  more {x} p others = first x (λ q. p) (λ q. others)
-
-  -- rules behind others
-  pub join : {xs ys : List Rule} → Only P xs → Only P ys → Only P (xs ++ ys)
-  join {xs} {ys} a b = record { broken = λ r e. go r (firstBroken xs) refl (sym (first-append xs ys) ∙ e) }
-    where
-      go : (r : Refusal) (x : Answer) → firstBroken xs ≡ x → andThen x (firstBroken ys) ≡ Refused r → P r
-      go r Accepted q e = b .broken r e
-      go r (Refused y) q e = a .broken r (q ∙ e)
-
 -- ---- of the table, on no line
 
 -- a refusal that is so
@@ -104,11 +66,7 @@ tested (x ∷ xs) t =
 
 -- put on a line, they are of the table still
 on-line : (l : LineNo) (rs : List Rule) → Only Alone rs → Only InTable (rulesOnLine l rs)
-on-line l rs a = record { broken = λ r e. go r (firstBroken rs) refl (sym (first-on-line l rs) ∙ e) }
-  where
-    go : (r : Refusal) (x : Answer) → firstBroken rs ≡ x → onLine l x ≡ Refused r → InTable r
-    go r Accepted q e = never e
-    go r (Refused x) q e = let same : refusal (x .number) l (x .place) ≡ r = cc in subst InTable same (a .broken x q .1)
+on-line l rs a = only.on-line l rs (λ x h. h .1) a
 
 -- ---- the first fault among bytes
 

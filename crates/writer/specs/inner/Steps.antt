@@ -13,11 +13,11 @@ use Rattle.layout.specs.declared.pairs.Batch.{Batch}
 use Rattle.fields.specs.Values.{recordOf}
 use Rattle.fields.specs.declared.Fields.{Fields}
 use Rattle.checker.specs.Order.{first, second}
-use Rattle.checker.specs.Line.{mostPayments}
+use Rattle.checker.specs.Line.{mostPayments, lineFrom}
 use Rattle.checker.specs.Machine.{lineOf}
 use Rattle.checker.specs.declared.Checker.{Checker}
 use Rattle.writer.specs.Given.{thirdIn, recordsIn}
-use Rattle.writer.specs.Filling.{filled, lineFrom}
+use Rattle.writer.specs.Filling.{filled}
 use Rattle.writer.specs.Refusals.{turnRule, dueInPayment, sumRule, notes, givenOnLine, allGiven, nextBy, held}
 use Rattle.writer.specs.Outcome.{linesFor, behindAll, cursorBehind, stateAfter, outputAfter}
 use Rattle.writer.specs.declared.given.Detail.{Detail}

@@ -17,9 +17,9 @@ use Rattle.layout.specs.Table.{creditAmount, boletoAmount, fieldsOf}
 use Rattle.layout.specs.declared.Record.{Record}
 use Rattle.layout.specs.declared.Record.the-variants.{FileHeader, BatchHeader, SegmentA, SegmentB, SegmentJ, SegmentJ52, SegmentZ, BatchTrailer, FileTrailer}
 use Rattle.fields.specs.declared.Fields.{Fields}
-use Rattle.checker.specs.Totals.{totals, none, add, counts, centsOf, batchesOf, paymentsOf}
+use Rattle.checker.specs.Totals.{totals, none, add, centsOf, batchesOf, paymentsOf}
 use Rattle.checker.specs.laws.Bounds.{counts-are}
-use Rattle.checker.specs.Machine.{next}
+use Rattle.checker.specs.laws.Sums.{same-totals, add-none, add-assoc, counted, next-counts}
 use Rattle.checker.specs.declared.totals.Totals.{Totals}
 use Rattle.checker.specs.declared.Checker.{Checker}
 use Rattle.writer.specs.Given.{Call, openFile, openBatch, pay, closeBatch, closeFile, recordsIn, recordsOf, given, creditIndex, boletoIndex, amountOf}
@@ -30,53 +30,13 @@ use Rattle.writer.specs.Calls.{AllWhole, putBy}
 use Rattle.writer.specs.declared.given.Detail.{Detail}
 use Rattle.writer.specs.declared.given.Payment.{Payment}
 use Rattle.writer.specs.declared.Writer.{Writer}
-use Rattle.writer.specs.laws.Due.{begins, goes-on, notes-it, countsAs, begins-counts, goes-on-counts, notes-counts}
+use Rattle.writer.specs.laws.Due.{first-due, second-due, note-due, countsAs, first-counts, second-counts, note-counts}
 use Rattle.writer.specs.laws.Accepted as accepted
 use Rattle.writer.specs.laws.Accepted.{kept, Right, Rights, rights}
 use Rattle.writer.specs.laws.Filled.{not-filled}
 use Rattle.writer.specs.laws.Reads.{stands-at, number-at}
 
--- ---- totals
-
-pub record Same (a b : Totals) : Type 0 where
-  pub batches : a .batches ≡ b .batches
-  pub records : a .records .0 ≡ b .records .0
-  pub payments : a .payments ≡ b .payments
-  pub cents : a .cents .0 ≡ b .cents .0
-
--- totals are what they count
-pub same-totals : {a b : Totals} → Same a b → a ≡ b
-same-totals e = λ i. totals (e .batches i) (e .records i) (e .payments i) (e .cents i)
-
-pub add-none : (t : Totals) → add t none ≡ t
-unfolding add
-add-none t = same-totals (omega arith)
-
-pub none-add : (t : Totals) → add none t ≡ t
-unfolding add
-none-add t = same-totals (omega arith)
-
-pub add-assoc : (a b c : Totals) → add (add a b) c ≡ add a (add b c)
-unfolding add
-add-assoc a b c = same-totals (omega arith)
-
 -- ---- one record
-
--- what a state counts in all
-abbrev pub counted : Checker → Totals
-counted s = add (s .closed) (s .current)
-
-next-counts : (r : Record) (s : Checker) (rec : List ℕ) → counted (next r s rec) ≡ add (counted s) (counts r rec)
-unfolding add
-next-counts FileHeader s rec = same-totals (omega arith)
-next-counts BatchHeader s rec = same-totals (omega arith)
-next-counts SegmentA s rec = same-totals (omega arith)
-next-counts SegmentB s rec = same-totals (omega arith)
-next-counts SegmentJ s rec = same-totals (omega arith)
-next-counts SegmentJ52 s rec = same-totals (omega arith)
-next-counts SegmentZ s rec = same-totals (omega arith)
-next-counts BatchTrailer s rec = same-totals (omega arith)
-next-counts FileTrailer s rec = same-totals (omega arith)
 
 value-is : (bs : List ℕ) (n : ℕ) → numberOf bs ≡ Is n → value bs ≡ n
 value-is bs n e = let g = digits-of bs n e in rw (le-leb (length bs) _ (g .few)) (sym (g .is))
@@ -117,12 +77,12 @@ added n a = same-totals (omega arith)
 payment-counts : (s : Checker) (p : Payment) → Rights (dueInPayment s) s (recordsIn p) → countsAll (recordsIn p) ≡ putBy (pay p)
 unfolding countsAll
 payment-counts s p (accepted.more t (accepted.more u others)) =
-    let a = begins-counts (begins (s .dir) (s .batch) (p .first .which) (t .is-due)) (p .first .fields) in
-    let b = goes-on-counts (goes-on (s .dir) (s .batch) (p .second .which) (u .is-due)) (p .second .fields) in
+    let a = first-counts (first-due (s .batch) (p .first .which) (t .is-due)) (p .first .fields) in
+    let b = second-counts (second-due (s .batch) (p .second .which) (u .is-due)) (p .second .fields) in
     rw (a, b, third (p .noted) others) (added _ _)
   where
     third : {t : Checker} (b : Bool) → let gs = cond b (p .third ∷ []) [] in Rights (notes (s .dir) ∷ []) t gs → countsAll gs ≡ totals 0 (length gs) 0 0
-    third true (accepted.more x accepted.none) = add-none _ ∙ notes-counts (notes-it (s .dir) (s .batch) (p .third .which) (x .is-due)) (p .third .fields)
+    third true (accepted.more x accepted.none) = add-none _ ∙ note-counts (note-due (s .dir) (p .third .which) (x .is-due) .1) (p .third .fields)
     third false accepted.none = refl
 
 -- ---- a call

@@ -4,13 +4,16 @@ use mathlib.Core.Bool.{Bool, true, false, cond}
 use mathlib.Core.List.{List, [], _∷_}
 use Prim.Native.Nat.{ℕ}
 use Rattle.answer.specs.Rules.{AllKept, firstBroken, refusal}
+use Rattle.answer.specs.laws.Order.{never}
 use Rattle.answer.specs.declared.Answer.the-variants.{Accepted, Refused}
 use Rattle.fields.specs.declared.Fields.{Fields}
-use Rattle.checker.specs.Order.{second, ended}
+use Rattle.checker.specs.Order.{second, after, ended}
 use Rattle.checker.specs.Machine.{lineOf}
 use Rattle.checker.specs.declared.order.Phase.{Phase}
 use Rattle.checker.specs.declared.order.Phase.the-variants.{Headed, Opened, Paid, Noted, Closed, Ended}
 use Rattle.checker.specs.declared.Checker.{Checker}
+use Rattle.checker.specs.laws.Edges.{goes-on-moves}
+use Rattle.checker.specs.laws.Meaning.{next-phase}
 use Rattle.writer.specs.Given.{Call, openFile, openBatch, pay, closeBatch, closeFile, thirdIn, recordsIn}
 use Rattle.writer.specs.Filling.{bytesOf}
 use Rattle.writer.specs.Refusals.{dueInPayment, notes, nextBy, allGiven, held, callRules}
@@ -18,9 +21,8 @@ use Rattle.writer.specs.Outcome.{newWriter, behindAll, answerOf}
 use Rattle.writer.specs.Calls.{Lent, WholeCalls, stateBehind, left, lent}
 use Rattle.writer.specs.declared.given.Payment.{Payment}
 use Rattle.writer.specs.declared.Writer.{Writer}
-use Rattle.writer.specs.laws.Due.{never, goes-on, notes-it}
+use Rattle.writer.specs.laws.Due.{second-due, note-due}
 use Rattle.writer.specs.laws.Accepted.{kept, first-due, later-kept}
-use Rattle.writer.specs.laws.Turn.{pays-moves}
 use Rattle.writer.specs.laws.Sequences.{never-guarded}
 
 abbrev pub phaseBy : Call → Phase
@@ -45,8 +47,8 @@ payment-phase s p k = go (p .noted) (later-kept _ t (p .second) (thirdIn p) othe
     others = later-kept (dueInPayment s) s (p .first) (p .second ∷ thirdIn p) k
 
     go : (b : Bool) → let gs = cond b (p .third ∷ []) [] in AllKept (allGiven (notes (s .dir) ∷ []) u gs) → behindAll u gs .phase ≡ cond b Noted Paid
-    go true k = pays-moves u (bytesOf u (p .third)) (notes-it (s .dir) (s .batch) (p .third .which) (first-due _ u (p .third) [] k)) .phase
-    go false k = pays-moves t (bytesOf t (p .second)) (goes-on (s .dir) (s .batch) (p .second .which) (first-due _ t (p .second) (thirdIn p) others)) .phase
+    go true k = next-phase (p .third .which) u (bytesOf u (p .third)) ∙ ap after (note-due (s .dir) (p .third .which) (first-due _ u (p .third) [] k) .1)
+    go false k = goes-on-moves t (bytesOf t (p .second)) (second-due (s .batch) (p .second .which) (first-due _ t (p .second) (thirdIn p) others)) .phase
 
 -- an accepted call leaves its phase
 pub phase-after : (w : Writer) (c : Call) (out : List ℕ) → answerOf w c out ≡ Accepted → stateBehind w (lent c out) .machine .phase ≡ phaseBy c

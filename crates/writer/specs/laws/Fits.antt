@@ -8,17 +8,20 @@ use native.Mathlib.Omega.{arith}
 use borrow.Author.Tests.{leb-true}
 use lib.Dec.{lit<, lit≤}
 use lib.ListN.{length, length-take}
-use Rattle.answer.specs.Limits.{fileRecords}
+use Rattle.answer.specs.Limits.{mostRecords}
 use Rattle.answer.specs.Rules.{AllKept}
 use Rattle.answer.specs.declared.Answer.{Answer}
 use Rattle.answer.specs.declared.Answer.the-variants.{Accepted, Refused}
 use Rattle.digits.specs.laws.Numerals.{value-lt}
 use Rattle.layout.specs.Table.{part, bankField}
+use Rattle.layout.specs.declared.Direction.{Direction}
+use Rattle.layout.specs.declared.pairs.Batch.{Batch}
 use Rattle.layout.specs.declared.Record.{Record}
 use Rattle.layout.specs.declared.Record.the-variants.{FileHeader, BatchHeader, SegmentA, SegmentB, SegmentJ, SegmentJ52, SegmentZ, BatchTrailer, FileTrailer}
 use Rattle.checker.specs.Totals.{add}
 use Rattle.checker.specs.Line.{ordinal}
-use Rattle.checker.specs.Machine.{next}
+use Rattle.checker.specs.Machine.{next, mostDetails}
+use Rattle.checker.specs.laws.Edges.{Follows, heads, closes-paid, closes-noted, ends}
 use Rattle.checker.specs.laws.Kept.{kept-bounded}
 use Rattle.checker.specs.laws.Reached.{reached-kept}
 use Rattle.checker.specs.declared.order.Phase.{Phase}
@@ -27,11 +30,11 @@ use Rattle.checker.specs.declared.totals.Totals.{Totals}
 use Rattle.checker.specs.declared.Checker.{Checker}
 use Rattle.writer.specs.Given.{Call, openFile, openBatch, pay, closeBatch, closeFile, recordsIn, recordsOf}
 use Rattle.writer.specs.Filling.{bytesOf}
-use Rattle.writer.specs.Refusals.{turns, recordsSoFar, leastDetails, mostDetails, trailers, turnLimits, nextBy}
+use Rattle.writer.specs.Refusals.{turns, recordsSoFar, leastDetails, trailers, turnLimits, nextBy}
 use Rattle.writer.specs.Outcome.{newWriter, behindAll, stateAfter, answerOf}
 use Rattle.writer.specs.Calls.{AllWhole, Lent, WholeCalls, no-call, and-call, putBy, stateBehind, left, lent}
-use Rattle.writer.specs.laws.Due.{never}
 use Rattle.writer.specs.laws.Sound.{as-held}
+use Rattle.writer.specs.laws.Turn.{in-turn}
 use Rattle.writer.specs.laws.Accepted.{kept}
 use Rattle.writer.specs.laws.Counted.{call-counted}
 use Rattle.writer.specs.laws.Sequences.{machine-reached, never-guarded}
@@ -53,50 +56,30 @@ reserve Closed = 1
 reserve Ended = 0
 
 abbrev Roomy : Checker → Type 0
-Roomy s = recordsSoFar s + reserve (s .phase) ≤ fileRecords
+Roomy s = recordsSoFar s + reserve (s .phase) ≤ mostRecords
 
--- by the phases in which a call is in turn
-header-turn : (p : Phase) → turns p .header ≡ true → reserve p ≡ 2
-header-turn Start e = refl
-header-turn Headed e = never e
-header-turn Opened e = never e
-header-turn Begun e = never e
-header-turn Paid e = never e
-header-turn Noted e = never e
-header-turn Closed e = never e
-header-turn Ended e = never e
+-- where the file header, a batch trailer and the file trailer may follow
+header-reserve : {d : Direction} {b : Batch} {p : Phase} → Follows d b p FileHeader → reserve p ≡ 2
+header-reserve heads = refl
 
-trailer-turn : (p : Phase) → turns p .trailer ≡ true → reserve p ≡ trailers
-trailer-turn Start e = never e
-trailer-turn Headed e = never e
-trailer-turn Opened e = never e
-trailer-turn Begun e = never e
-trailer-turn Paid e = refl
-trailer-turn Noted e = refl
-trailer-turn Closed e = never e
-trailer-turn Ended e = never e
+trailer-reserve : {d : Direction} {b : Batch} {p : Phase} → Follows d b p BatchTrailer → reserve p ≡ trailers
+trailer-reserve closes-paid = refl
+trailer-reserve closes-noted = refl
 
-end-turn : (p : Phase) → turns p .end ≡ true → reserve p ≡ 1
-end-turn Start e = never e
-end-turn Headed e = never e
-end-turn Opened e = never e
-end-turn Begun e = never e
-end-turn Paid e = never e
-end-turn Noted e = never e
-end-turn Closed e = refl
-end-turn Ended e = never e
+end-reserve : {d : Direction} {b : Batch} {p : Phase} → Follows d b p FileTrailer → reserve p ≡ 1
+end-reserve ends = refl
 
 paid-reserve : (b : Bool) → reserve (cond b Noted Paid) ≡ trailers
 paid-reserve true = refl
 paid-reserve false = refl
 
-turn-room : (c : Call) (s : Checker) → AllKept (turnLimits c s) → Roomy s → recordsSoFar s + putBy c .records .0 + reserve (phaseBy c) ≤ fileRecords
+turn-room : (c : Call) (s : Checker) → AllKept (turnLimits c s) → Roomy s → recordsSoFar s + putBy c .records .0 + reserve (phaseBy c) ≤ mostRecords
 unfolding AllKept
-turn-room (openFile v) s k h = omega (arith, header-turn (s .phase) (k .0))
-turn-room (openBatch v) s k h = omega (arith, leb-true (recordsSoFar s + (1 + leastDetails + trailers)) fileRecords (k .1 .1 .0))
-turn-room (pay p) s k h = omega (arith, leb-true (recordsSoFar s + (length (recordsIn p) + trailers)) fileRecords (k .1 .1 .0), paid-reserve (p .noted))
-turn-room (closeBatch v) s k h = omega (arith, trailer-turn (s .phase) (k .0))
-turn-room (closeFile v) s k h = omega (arith, end-turn (s .phase) (k .0))
+turn-room (openFile v) s k h = omega (arith, header-reserve (in-turn (s .phase) (s .dir) (s .batch) .header (k .0)))
+turn-room (openBatch v) s k h = omega (arith, leb-true (recordsSoFar s + (1 + leastDetails + trailers)) mostRecords (k .1 .1 .0))
+turn-room (pay p) s k h = omega (arith, leb-true (recordsSoFar s + (length (recordsIn p) + trailers)) mostRecords (k .1 .1 .0), paid-reserve (p .noted))
+turn-room (closeBatch v) s k h = omega (arith, trailer-reserve (in-turn (s .phase) (s .dir) (s .batch) .trailer (k .0)))
+turn-room (closeFile v) s k h = omega (arith, end-reserve (in-turn (s .phase) (s .dir) (s .batch) .end (k .0)))
 
 call-roomy : (w : Writer) (c : Call) (out : List ℕ) → AllWhole (recordsOf c) → Roomy (w .machine) → Roomy (stateBehind w (lent c out) .machine)
 unfolding add
@@ -114,7 +97,7 @@ unfolding left
 calls-roomy w no-call h = h
 calls-roomy w (and-call {l} whole hs) h = calls-roomy (stateBehind w l) hs (call-roomy w (l .call) (l .out) whole h)
 
-pub room-left : (ls : List Lent) → WholeCalls ls → recordsSoFar (left newWriter ls .machine) + reserve (left newWriter ls .machine .phase) ≤ fileRecords
+pub room-left : (ls : List Lent) → WholeCalls ls → recordsSoFar (left newWriter ls .machine) + reserve (left newWriter ls .machine .phase) ≤ mostRecords
 room-left ls h = calls-roomy newWriter h (lit≤ tt)
 
 -- ---- the bank has three digits
@@ -168,5 +151,5 @@ own-fits ls h =
       batch-records = omega arith;
       batch-sum = omega arith;
       file-batches = omega arith;
-      file-records = λ e. let one = end-turn (s .phase) e in omega arith;
+      file-records = λ e. let one = end-reserve (in-turn (s .phase) (s .dir) (s .batch) .end e) in omega arith;
     }

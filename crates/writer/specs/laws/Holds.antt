@@ -12,8 +12,9 @@ use Rattle.layout.specs.laws.Tiling.{covered}
 use Rattle.layout.specs.declared.Record.{Record}
 use Rattle.fields.specs.Values.{heldAs, rendered}
 use Rattle.fields.specs.laws.Parts.{holds-at}
+use Rattle.checker.specs.Line.{lineFrom}
 use Rattle.checker.specs.declared.Checker.{Checker}
-use Rattle.writer.specs.Filling.{filled, bytesOf, lineFrom}
+use Rattle.writer.specs.Filling.{filled, bytesOf}
 use Rattle.writer.specs.Refusals.{nextBy}
 use Rattle.writer.specs.Outcome.{linesFor, behindAll}
 use Rattle.writer.specs.Calls.{Whole, AllWhole, no-more, and-then}

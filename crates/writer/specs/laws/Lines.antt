@@ -5,9 +5,9 @@ use native.Mathlib.Omega.{arith}
 use lib.ListN.{length, length-append}
 use Rattle.layout.specs.Table.{recordBytes}
 use Rattle.fields.specs.laws.Parts.{record-length}
-use Rattle.checker.specs.Line.{lineBytes}
+use Rattle.checker.specs.Line.{lineBytes, lineFrom}
 use Rattle.checker.specs.declared.Checker.{Checker}
-use Rattle.writer.specs.Filling.{filled, bytesOf, lineFrom}
+use Rattle.writer.specs.Filling.{filled, bytesOf}
 use Rattle.writer.specs.Refusals.{nextBy, size}
 use Rattle.writer.specs.Outcome.{linesFor}
 use Rattle.writer.specs.Calls.{Whole, AllWhole, no-more, and-then}

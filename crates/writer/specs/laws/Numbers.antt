@@ -1,11 +1,13 @@
 -- The numbers that a call is refused with. Assumes nothing.
 use mathlib.Core.Path.{_≡_, refl, ap, _∙_}
-use mathlib.Core.Bool.{Bool, true, _&&_, _||_}
+use mathlib.Core.Bool.{Bool, true, false, cond, _&&_, _||_}
 use mathlib.Core.List.{List, [], _∷_}
 use Prim.Native.Nat.{ℕ, suc, _<_, zero-le, suc-le-suc}
 use lib.Dec.{leb, eqb}
 use lib.ListN.{length, getD, drop}
 use Rattle.answer.specs.Rules.{Rule, rulesOnLine}
+use Rattle.answer.specs.laws.Only as only
+use Rattle.answer.specs.laws.Only.{Only, none, more, past, join, broken-so}
 use Rattle.answer.specs.declared.LineNo.{LineNo}
 use Rattle.answer.specs.declared.Refusal.{Refusal}
 use Rattle.answer.specs.declared.Answer.the-variants.{Refused}
@@ -16,7 +18,7 @@ use Rattle.layout.specs.laws.Bytes.{same-self}
 use Rattle.layout.specs.declared.Direction.{Direction}
 use Rattle.layout.specs.declared.Direction.the-variants.{Remittance, Return}
 use Rattle.layout.specs.declared.Record.{Record}
-use Rattle.layout.specs.declared.Record.the-variants.{FileHeader, BatchHeader, SegmentA, SegmentB, SegmentJ, SegmentJ52, SegmentZ, BatchTrailer, FileTrailer}
+use Rattle.layout.specs.declared.Record.the-variants.{SegmentJ}
 use Rattle.fields.specs.Values.{heldAs, rendered}
 use Rattle.fields.specs.laws.Parts.{holds}
 use Rattle.checker.specs.Line.{houseRules, boletoRules}
@@ -31,7 +33,6 @@ use Rattle.writer.specs.declared.given.Detail.{Detail}
 use Rattle.writer.specs.declared.Writer.{Writer}
 use Rattle.writer.specs.laws.Lines.{full-text}
 use Rattle.writer.specs.laws.Answers.{call-refused}
-use Rattle.writer.specs.laws.Each.{Each, none, more, past, join, broken-so}
 
 -- 4, 8, 11 to 20, 23, 25, 50 and 51
 abbrev pub writes : ℕ → Bool
@@ -39,15 +40,13 @@ writes n = eqb n 4 || (eqb n 8 || ((leb 11 n && leb n 20) || (eqb n 23 || (eqb n
 
 -- each rule names such a number, or is kept
 abbrev Writes : List Rule → Type 0
-Writes rs = Each (λ x. writes (x .number) ≡ true) rs
+Writes rs = Only (λ x. writes (x .number) ≡ true) rs
 
 one : {r : Rule} → writes (r .refused .number) ≡ true → Writes (r ∷ [])
 one e = more e none
 
 on-line : (n : LineNo) {rs : List Rule} → Writes rs → Writes (rulesOnLine n rs)
-on-line n none = none
-on-line n (more e a) = more e (on-line n a)
-on-line n (past e a) = past e (on-line n a)
+on-line n a = only.on-line n _ (λ x h. h) a
 
 blanks : (d : Direction) (p : Part) → Writes (blankIn d p)
 blanks Remittance p = one refl
@@ -83,15 +82,11 @@ fields (f ∷ fs) d rec n text h =
 
 house : (r : Record) (rec : List ℕ) → Writes (houseRules r rec)
 unfolding boletoRules
-house FileHeader rec = none
-house BatchHeader rec = none
-house SegmentA rec = none
-house SegmentB rec = none
-house SegmentJ rec = more refl (more refl (more refl (one refl)))
-house SegmentJ52 rec = none
-house SegmentZ rec = none
-house BatchTrailer rec = none
-house FileTrailer rec = none
+house r rec = go (isOneOf r (SegmentJ ∷ []))
+  where
+    go : (b : Bool) → Writes (cond b (boletoRules rec) [])
+    go true = more refl (more refl (more refl (one refl)))
+    go false = none
 
 given : (due : Bool) (s : Checker) (g : Detail) → Whole (g .fields) → Writes (givenRules due (g .which) (s .dir) (bytesOf s g))
 unfolding givenRules

@@ -7,6 +7,7 @@ use native.Mathlib.Omega.{arith}
 use lib.ListN.{length, drop}
 use Rattle.answer.specs.Rules.{Rule, noLine, refusal, refusedAs, rulesOnLine}
 use Rattle.answer.specs.laws.Order.{here}
+use Rattle.answer.specs.laws.Only.{Only, none, more, past, join, broken-so}
 use Rattle.answer.specs.declared.LineNo.{LineNo}
 use Rattle.answer.specs.declared.Refusal.{Refusal}
 use Rattle.answer.specs.declared.Answer.the-variants.{Refused}
@@ -22,7 +23,6 @@ use Rattle.writer.specs.Outcome.{answerOf}
 use Rattle.writer.specs.declared.given.Detail.{Detail}
 use Rattle.writer.specs.declared.Writer.{Writer}
 use Rattle.writer.specs.laws.Answers.{call-refused}
-use Rattle.writer.specs.laws.Each.{Each, none, more, past, join, broken-so}
 
 -- each rule is on a line from one on and before another, or is kept
 record Within (low end : ℕ) (n : LineNo) : Type 0 where
@@ -30,7 +30,7 @@ record Within (low end : ℕ) (n : LineNo) : Type 0 where
   before : n .0 < end
 
 abbrev InLines : ℕ → ℕ → List Rule → Type 0
-InLines low end rs = Each (λ x. Within low end (x .line)) rs
+InLines low end rs = Only (λ x. Within low end (x .line)) rs
 
 module _ (low end : ℕ) where
   all-on : (n : LineNo) → Within low end n → (rs : List Rule) → InLines low end (rulesOnLine n rs)

@@ -1,117 +1,65 @@
--- A right record keeps the line machine's rules for its kind. Assumes nothing.
+-- A right record keeps the line machine's rules for its kind, within the limit. Assumes nothing.
 use mathlib.Core.Path.{_≡_, refl}
-use mathlib.Core.Bool.{Bool, true, false, cond, _&&_}
-use mathlib.Core.List.{List, [], _∷_}
-use Prim.Native.Nat.{ℕ, _+_, _≤_, _<_}
-use borrow.Author.Tests.{le-leb, lt-ltb}
-use lib.Dec.{leb, lit≤}
+use Prim.Native.Nat.{ℕ}
+use mathlib.Core.List.{List}
+use lib.Dec.{lit≤}
 use lib.ListN.{getD}
-use Rattle.answer.specs.Limits.{fileCents}
-use Rattle.answer.specs.Rules.{Rule, AllKept}
-use Rattle.answer.specs.laws.Order.{accepted-kept, kept-front, kept-behind, kept-join}
-use Rattle.digits.specs.Digits.{allDigits}
-use Rattle.layout.specs.Table.{Field, part, bankField, batchRecords, batchSum, fileBatches, fileRecords, fieldsOf, segmentFields}
-use Rattle.layout.specs.Record.{fieldRules, rulesOf}
-use Rattle.layout.specs.declared.Direction.{Direction}
+use Rattle.answer.specs.Rules.{AllKept}
+use Rattle.answer.specs.laws.Order.{accepted-kept}
+use Rattle.digits.specs.Digits.{digitByte}
+use Rattle.digits.specs.Numbers.{numberOf}
+use Rattle.digits.specs.declared.spelling.Number.the-variants.{Is}
+use Rattle.layout.specs.Table.{part, typeOf, bankField, batchField, batchRecords, batchSum, fileBatches, fileRecords, fieldsOf}
 use Rattle.layout.specs.declared.Record.{Record}
-use Rattle.layout.specs.declared.Record.the-variants.{FileHeader, BatchHeader, BatchTrailer, FileTrailer}
+use Rattle.layout.specs.declared.Record.the-variants.{FileHeader, BatchHeader, SegmentA, SegmentB, SegmentJ, SegmentJ52, SegmentZ, BatchTrailer, FileTrailer}
 use Rattle.fields.specs.declared.Fields.{Fields}
-use Rattle.checker.specs.Totals.{paymentsOf}
-use Rattle.checker.specs.Line.{bank, batchNumber, ordinal, mostBatches, mostPayments, within, detailRules, rulesAs}
+use Rattle.checker.specs.Line.{rulesAs}
 use Rattle.checker.specs.declared.Checker.{Checker}
+use Rattle.checker.specs.laws.Details.{inDetail, asked, AllRead, Limit}
+use Rattle.checker.specs.laws.Asks.{record-kept}
 use Rattle.writer.specs.Given.{given}
-use Rattle.writer.specs.Filling.{bankIndex, batchIndex, numberIndex, firstIndex, secondIndex, bytesOf}
-use Rattle.writer.specs.Refusals.{centsSoFar}
+use Rattle.writer.specs.Filling.{bankIndex, batchIndex, firstIndex, secondIndex, bytesOf}
 use Rattle.writer.specs.declared.given.Detail.{Detail}
 use Rattle.writer.specs.laws.Accepted.{Right}
-use Rattle.writer.specs.laws.Filled.{fillsIn, numberFrom}
-use Rattle.writer.specs.laws.Reads.{stands-at, in-line, reads-at}
-use Rattle.writer.specs.laws.Details.{Details, stands}
+use Rattle.writer.specs.laws.Filled.{detailFills, fillsIn, numberFrom}
+use Rattle.writer.specs.laws.Reads.{stands-at, in-line, at-number, reads-at}
 
--- ---- rules that are kept, one behind the other
-
-pub more : (r : Rule) (rs : List Rule) → r .kept ≡ true → AllKept rs → AllKept (r ∷ rs)
-unfolding AllKept
-more r rs e k = (e, k)
-
-pub done : AllKept []
-unfolding AllKept
-done = tt
-
--- the rules of some fields, where those of all are kept
-pub within-kept : (a b : ℕ) (fs : List Field) (d : Direction) (rec : List ℕ) → AllKept (rulesOf fs d rec) → AllKept (rulesOf (within a b fs) d rec)
-unfolding within rulesOf
-within-kept a b [] d rec k = k
-within-kept a b (f ∷ fs) d rec k = go (leb a (f .from) && leb (f .to) b) (within-kept a b fs d rec (kept-behind (fieldRules f d rec) _ k))
-  where
-    go : (t : Bool) → AllKept (rulesOf (within a b fs) d rec) → AllKept (rulesOf (cond t (f ∷ within a b fs) (within a b fs)) d rec)
-    go true on = kept-join (fieldRules f d rec) _ (kept-front (fieldRules f d rec) _ k) on
-    go false on = on
-
--- ---- any record
-
-abbrev pub Ruled : Checker → Detail → Type 0
-Ruled s g = AllKept (rulesAs (g .which) s (bytesOf s g))
+-- ---- the fields that read what the state counts are filled with it
 
 module _ {due : List Record} {s : Checker} {g : Detail} (t : Right due s g) where
-  all-fields : AllKept (rulesOf (fieldsOf (g .which)) (s .dir) (bytesOf s g))
-  all-fields = accepted-kept _ (t .fields)
+  -- the number that is filled at an index
+  abbrev filledAt : ℕ → ℕ
+  filledAt j = numberFrom (fillsIn (g .which) s) j (getD (g .fields .numbers) j 0)
 
-  fields : (a b : ℕ) → AllKept (rulesOf (within a b (fieldsOf (g .which))) (s .dir) (bytesOf s g))
-  fields a b = within-kept a b (fieldsOf (g .which)) (s .dir) _ all-fields
+  bank : filledAt bankIndex ≡ s .bank → numberOf (part bankField (bytesOf s g)) ≡ Is (s .bank)
+  bank e = reads-at t (in-line (g .which) bankIndex (lit≤ tt)) refl (s .bank) e
 
-  bank-read : numberFrom (fillsIn (g .which) s) bankIndex (getD (g .fields .numbers) bankIndex 0) ≡ s .bank
-      → bank s (bytesOf s g) .kept ≡ true
-  bank-read e = reads-at t (in-line (g .which) bankIndex (lit≤ tt)) refl 7 (s .bank) e
+  batch : (k : ℕ) → filledAt batchIndex ≡ k → numberOf (part batchField (bytesOf s g)) ≡ Is k
+  batch k e = reads-at t (in-line (g .which) batchIndex (lit≤ tt)) refl k e
 
-  batch-read : (k : ℕ) → numberFrom (fillsIn (g .which) s) batchIndex (getD (g .fields .numbers) batchIndex 0) ≡ k
-      → batchNumber k (bytesOf s g) .kept ≡ true
-  batch-read k e = reads-at t (in-line (g .which) batchIndex (lit≤ tt)) refl 9 k e
+  detail-read : typeOf (g .which) ≡ digitByte 3 → fillsIn (g .which) s ≡ detailFills s → AllRead (inDetail s) (bytesOf s g)
+  unfolding AllRead
+  detail-read e f = (bank (rw f), (batch _ (rw f), (reads-at t (at-number (g .which) e) refl _ (rw f), tt)))
 
--- ---- each kind
+all-read : {due : List Record} {s : Checker} (r : Record) (v : Fields) → Right due s (given r v) → AllRead (asked r s) (bytesOf s (given r v))
+unfolding AllRead fieldsOf
+all-read FileHeader v t = (batch t _ refl, tt)
+all-read BatchHeader v t = (bank t refl, (batch t _ refl, tt))
+all-read SegmentA v t = detail-read t refl refl
+all-read SegmentB v t = detail-read t refl refl
+all-read SegmentJ v t = detail-read t refl refl
+all-read SegmentJ52 v t = detail-read t refl refl
+all-read SegmentZ v t = detail-read t refl refl
+all-read BatchTrailer v t =
+    let records = reads-at t (stands-at firstIndex batchRecords (lit≤ tt) refl) refl _ refl in
+    let sum = reads-at t (stands-at secondIndex batchSum (lit≤ tt) refl) refl _ refl in
+    (bank t refl, (batch t _ refl, (records, (sum, tt))))
+all-read FileTrailer v t =
+    let batches = reads-at t (stands-at firstIndex fileBatches (lit≤ tt) refl) refl _ refl in
+    let records = reads-at t (stands-at secondIndex fileRecords (lit≤ tt) refl) refl _ refl in
+    (bank t refl, (batch t _ refl, (batches, (records, tt))))
 
-bank-digits : {due : List Record} {s : Checker} {v : Fields} → Right due s (given FileHeader v)
-    → allDigits (part bankField (bytesOf s (given FileHeader v))) ≡ true
-unfolding AllKept rulesOf fieldsOf
-bank-digits t = all-fields t .0
-
-module _ {due : List Record} {s : Checker} {v : Fields} where
-  pub file-header-kept : Right due s (given FileHeader v) → Ruled s (given FileHeader v)
-  unfolding rulesAs
-  file-header-kept t = more _ _ (bank-digits t) (more _ _ (batch-read t _ refl) (fields t _ _))
-
-  pub batch-header-kept : Right due s (given BatchHeader v) → ordinal s ≤ mostBatches → Ruled s (given BatchHeader v)
-  unfolding rulesAs
-  batch-header-kept t few = more _ _ (le-leb _ _ few) (more _ _ (bank-read t refl) (more _ _ (batch-read t _ refl) (fields t _ _)))
-
-  pub batch-trailer-kept : Right due s (given BatchTrailer v) → centsSoFar s < fileCents → Ruled s (given BatchTrailer v)
-  unfolding rulesAs fieldsOf
-  batch-trailer-kept t few =
-      let counted = reads-at t (stands-at firstIndex batchRecords (lit≤ tt) refl) refl 21 _ refl in
-      let summed = reads-at t (stands-at secondIndex batchSum (lit≤ tt) refl) refl 22 _ refl in
-      kept-join _ _
-      (kept-join _ _ (more _ _ (bank-read t refl) (more _ _ (batch-read t _ refl) (fields t _ _))) (more _ _ counted (fields t _ _)))
-      (more _ _ summed (more _ _ (lt-ltb _ _ few) done))
-
-  pub file-trailer-kept : Right due s (given FileTrailer v) → Ruled s (given FileTrailer v)
-  unfolding rulesAs fieldsOf
-  file-trailer-kept t =
-      let batches = reads-at t (stands-at firstIndex fileBatches (lit≤ tt) refl) refl 21 _ refl in
-      let records = reads-at t (stands-at secondIndex fileRecords (lit≤ tt) refl) refl 21 _ refl in
-      kept-join _ _
-      (kept-join _ _ (more _ _ (bank-read t refl) (more _ _ (batch-read t _ refl) (fields t _ _))) (more _ _ batches (fields t _ _)))
-      (more _ _ records (fields t _ _))
-
--- a detail, of whichever kind
-pub detail-kept : {due : List Record} {s : Checker} {g : Detail} → Right due s g → Details (g .which)
-    → s .current .payments + paymentsOf (g .which) ≤ mostPayments → Ruled s g
-unfolding detailRules
-detail-kept {due} {s} {g} t d few =
-    let number = reads-at t (stands d numberIndex (lit≤ tt)) refl 10 (s .current .records .0) (rw (d .fills)) in
-    let segment : AllKept (rulesOf (segmentFields (g .which)) (s .dir) (bytesOf s g)) = rw (d .marked) (fields t _ _) in
-    rw (d .rules)
-    (kept-join _ _
-    (kept-join _ _
-    (more _ _ (bank-read t (rw (d .fills))) (more _ _ (batch-read t _ (rw (d .fills))) (more _ _ number segment)))
-    (more _ _ (le-leb _ _ few) (fields t _ _)))
-    (t .house))
+pub ruled : {due : List Record} {s : Checker} {g : Detail} → Right due s g → Limit (g .which) s → AllKept (rulesAs (g .which) s (bytesOf s g))
+ruled {s = s} {g = g} t few =
+    let numbers = all-read (g .which) (g .fields) t in
+    record-kept s (bytesOf s g) (g .which) (record { fields = accepted-kept _ (t .fields); house = t .house; numbers = numbers; limit = few })

@@ -1,36 +1,34 @@
 -- Calls one after the other: the reader takes every line that they write, and counts what was put in. Assumes nothing.
 use mathlib.Core.Path.{_≡_, refl, sym, _∙_}
 use mathlib.Core.Bool.{true}
-use mathlib.Core.List.{List, _++_}
+use mathlib.Core.List.{List}
 use Prim.Native.Nat.{ℕ, _<_, _≤_, _+_, _*_}
 use native.Mathlib.Omega.{arith}
-use borrow.Author.Tests.{eqb-true, lt-ltb, le-leb}
+use borrow.Author.Tests.{lt-ltb, le-leb}
 use lib.Dec.{lit<}
-use lib.ListN.{length}
 use Rattle.answer.specs.Limits.{fileCents}
-use Rattle.answer.specs.Rules.{AllKept}
 use Rattle.answer.specs.declared.Answer.{Answer}
 use Rattle.answer.specs.declared.Answer.the-variants.{Accepted, Refused}
 use Rattle.checker.specs.Totals.{none, add}
-use Rattle.checker.specs.Line.{rulesOfLine, lineBytes}
-use Rattle.checker.specs.Machine.{start}
+use Rattle.checker.specs.Machine.{start, mostDetails}
 use Rattle.checker.specs.File.{checkFile}
-use Rattle.checker.specs.Calls.{Reached, at-start, Through, here, further}
+use Rattle.checker.specs.Calls.{Reached, at-start, Through, here}
+use Rattle.checker.specs.laws.Sums.{same-totals, add-none, none-add, add-assoc, counted}
 use Rattle.checker.specs.laws.Bounds.{bounded-sound}
 use Rattle.checker.specs.laws.Kept as checker
 use Rattle.checker.specs.laws.Reached.{reached-kept}
-use Rattle.checker.specs.laws.Runs.{Lines, empty, full, lines-are}
-use Rattle.checker.specs.laws.Verdict.{through-reached, accepted-file}
+use Rattle.checker.specs.laws.Runs.{lines-are}
+use Rattle.checker.specs.laws.Verdict.{through-reached, through-append, through-lines, accepted-file}
 use Rattle.checker.specs.declared.order.Phase.the-variants.{Ended}
 use Rattle.checker.specs.declared.file.Outcome.the-variants as outcome
 use Rattle.checker.specs.declared.Checker.{Checker}
 use Rattle.writer.specs.Given.{Call, recordsOf}
-use Rattle.writer.specs.Refusals.{held, centsSoFar, mostDetails}
+use Rattle.writer.specs.Refusals.{held, centsSoFar}
 use Rattle.writer.specs.Outcome.{newWriter, linesFor, stateAfter, answerOf}
 use Rattle.writer.specs.Calls.{AllWhole, Lent, WholeCalls, no-call, and-call, stateBehind, left, linesIf, written, fileOf, putBy, totalsIf, putIn}
 use Rattle.writer.specs.declared.Writer.{Writer}
 use Rattle.writer.specs.laws.TakesCall.{call-through}
-use Rattle.writer.specs.laws.Counted.{same-totals, add-none, none-add, add-assoc, counted, call-counted, call-cents}
+use Rattle.writer.specs.laws.Counted.{call-counted, call-cents}
 
 -- ---- one call, whatever its answer
 
@@ -48,10 +46,6 @@ does w c out h = go (answerOf w c out) refl
     go (Refused r) e = record { through = here; counts = sym (add-none (counted (w .machine))); cents = λ l. l }
 
 -- ---- calls one after the other
-
-pub through-append : {s t u : Checker} {xs ys : List (List ℕ)} → Through s xs t → Through t ys u → Through s (xs ++ ys) u
-through-append here q = q
-through-append (further k p) q = further k (through-append p q)
 
 calls-through : (w : Writer) {ls : List Lent} → WholeCalls ls → Through (w .machine) (written w ls) (left w ls .machine)
 unfolding written left
@@ -80,15 +74,6 @@ held-kept {s} k few =
 -- behind the file's trailer no batch is open
 ended-none : {s : Checker} → checker.Kept s → s .phase ≡ Ended → s .current ≡ none
 ended-none {s} k e = let closed : checker.stage (s .phase) .opened ≡ 0 = rw e in same-totals (omega arith)
-
--- accepted lines are whole
-line-long : (s : Checker) (l : List ℕ) → AllKept (rulesOfLine s l) → length l ≡ lineBytes
-unfolding AllKept rulesOfLine
-line-long s l k = eqb-true _ _ (k .1 .0)
-
-pub through-lines : {s t : Checker} {ls : List (List ℕ)} → Through s ls t → Lines ls
-through-lines here = empty
-through-lines (further {s} {l = l} k on) = full l (line-long s l k) (through-lines on)
 
 -- ---- a file
 

@@ -9,22 +9,21 @@ use lib.Dec.{leb}
 use Rattle.answer.specs.Limits.{fileCents}
 use Rattle.layout.specs.Table.{isOneOf}
 use Rattle.layout.specs.laws.Bytes.{and-left, and-right}
-use Rattle.layout.specs.declared.Direction.{Direction}
 use Rattle.layout.specs.declared.Record.{Record}
 use Rattle.layout.specs.declared.Record.the-variants.{SegmentA, SegmentJ}
 use Rattle.layout.specs.declared.pairs.Batch.{Batch}
 use Rattle.checker.specs.Order.{first, second}
 use Rattle.checker.specs.Totals.{add}
 use Rattle.checker.specs.Line.{mostPayments}
-use Rattle.checker.specs.Machine.{next, sound, batchRecordsMost}
+use Rattle.checker.specs.Machine.{next, sound, batchRecordsMost, mostDetails}
 use Rattle.checker.specs.inner.Steps.{Bounded}
 use Rattle.checker.specs.laws.Bounds.{bounded, bounded-sound, small}
-use Rattle.checker.specs.declared.order.Phase.the-variants.{Begun, Paid}
+use Rattle.checker.specs.laws.Edges.{Begins, by-A, by-J, GoesOn, by-B, by-J52}
 use Rattle.checker.specs.declared.Checker.{Checker}
 use Rattle.writer.specs.Filling.{bytesOf}
-use Rattle.writer.specs.Refusals.{nextBy, mostDetails, centsSoFar, held}
+use Rattle.writer.specs.Refusals.{nextBy, centsSoFar, held}
 use Rattle.writer.specs.declared.given.Detail.{Detail}
-use Rattle.writer.specs.laws.Due.{Pays, is-A, is-B, is-J, is-J52, begins, goes-on}
+use Rattle.writer.specs.laws.Due.{first-due, second-due}
 
 -- `held`, as facts
 pub record Held (s : Checker) : Type 0 where
@@ -48,20 +47,20 @@ record Spare (n : ℕ) (s : Checker) : Type 0 where
   bounds : Bounded s
   spare : s .current .records .0 + n ≤ batchRecordsMost
 
-begun : {d : Direction} {b : Batch} {r : Record} {s : Checker} (rec : List ℕ) → Pays d b Begun r → Held s → s .current .payments + 1 ≤ mostPayments
+begun : {b : Batch} {r : Record} {s : Checker} (rec : List ℕ) → Begins b r → Held s → s .current .payments + 1 ≤ mostPayments
     → Spare 2 (next r s rec)
 unfolding add
-begun {s = s} rec is-A h few = let b = bounded s (h .is-sound) in omega (arith, small SegmentA rec)
-begun {s = s} rec is-J h few = let b = bounded s (h .is-sound) in omega (arith, small SegmentJ rec)
+begun {s = s} rec by-A h few = let b = bounded s (h .is-sound) in omega (arith, small SegmentA rec)
+begun {s = s} rec by-J h few = let b = bounded s (h .is-sound) in omega (arith, small SegmentJ rec)
 
-gone-on : {d : Direction} {b : Batch} {r : Record} {n : ℕ} {s : Checker} (rec : List ℕ) → Pays d b Paid r → Spare (suc n) s → Spare n (next r s rec)
+gone-on : {b : Batch} {r : Record} {n : ℕ} {s : Checker} (rec : List ℕ) → GoesOn b r → Spare (suc n) s → Spare n (next r s rec)
 unfolding add
-gone-on rec is-B k = omega arith
-gone-on rec is-J52 k = omega arith
+gone-on rec by-B k = omega arith
+gone-on rec by-J52 k = omega arith
 
 behind-first : (s : Checker) (g : Detail) → held s ≡ true → s .current .payments + 1 ≤ mostPayments → isOneOf (g .which) (first (s .batch)) ≡ true
     → Spare 2 (nextBy s g)
-behind-first s g k few f = begun (bytesOf s g) (begins (s .dir) (s .batch) (g .which) f) (as-held s k) few
+behind-first s g k few f = begun (bytesOf s g) (first-due (s .batch) (g .which) f) (as-held s k) few
 
 -- behind the first record, and behind the second
 pub sound-second : (s : Checker) (g : Detail) → held s ≡ true → s .current .payments + 1 ≤ mostPayments → isOneOf (g .which) (first (s .batch)) ≡ true
@@ -71,4 +70,4 @@ sound-second s g k few f = bounded-sound (behind-first s g k few f .bounds)
 pub sound-third : (s : Checker) (g h : Detail) → held s ≡ true → s .current .payments + 1 ≤ mostPayments → isOneOf (g .which) (first (s .batch)) ≡ true
     → isOneOf (h .which) (second (s .batch)) ≡ true → sound (nextBy (nextBy s g) h) ≡ true
 sound-third s g h k few f q =
-    bounded-sound (gone-on (bytesOf (nextBy s g) h) (goes-on (s .dir) (s .batch) (h .which) q) (behind-first s g k few f) .bounds)
+    bounded-sound (gone-on (bytesOf (nextBy s g) h) (second-due (s .batch) (h .which) q) (behind-first s g k few f) .bounds)

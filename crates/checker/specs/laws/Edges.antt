@@ -1,12 +1,13 @@
 -- Which record a line may be, by phase, direction and kind of batch: each edge of the machine, both ways. Assumes nothing.
-use mathlib.Core.Path.{_≡_, refl, subst, _∙_}
+use mathlib.Core.Path.{_≡_, refl, sym, ap, subst, _∙_}
 use mathlib.Core.Bool.{Bool, true, false, not, cond, _&&_, _||_}
-use mathlib.Core.List.{List, [], _∷_, _++_}
+use mathlib.Core.List.{List, [], _∷_, _++_, List·Memᴰ, List·Memᴰ·head, List·Memᴰ·tail}
 use Prim.Native.Nat.{ℕ}
 use native.Mathlib.Omega.{arith}
 use borrow.Author.Tests.{eqb-true}
 use lib.Dec.{eqb}
-use Rattle.digits.specs.Digits.{place}
+use Rattle.answer.specs.laws.Order.{never}
+use Rattle.digits.specs.Digits.{digitByte, place}
 use Rattle.layout.specs.Table.{typeOf, typePlace, segmentPlace}
 use Rattle.layout.specs.laws.Bytes.{and-right}
 use Rattle.layout.specs.declared.Direction.{Direction}
@@ -15,13 +16,14 @@ use Rattle.layout.specs.declared.Record.{Record}
 use Rattle.layout.specs.declared.Record.the-variants.{FileHeader, BatchHeader, SegmentA, SegmentB, SegmentJ, SegmentJ52, SegmentZ, BatchTrailer, FileTrailer}
 use Rattle.layout.specs.declared.pairs.Batch.{Batch}
 use Rattle.layout.specs.declared.pairs.Batch.the-variants.{Credit, Boleto, Unknown}
-use Rattle.checker.specs.Order.{first, second, follows, optional, suits, readAs}
-use Rattle.checker.specs.Line.{lineIs}
+use Rattle.checker.specs.Order.{first, second, follows, ended, optional, suits, readAs}
+use Rattle.checker.specs.Line.{lineIs, found}
+use Rattle.checker.specs.Machine.{next}
 use Rattle.checker.specs.declared.order.Due.{Due}
 use Rattle.checker.specs.declared.order.Due.the-variants.{Line}
 use Rattle.checker.specs.declared.order.Phase.{Phase}
 use Rattle.checker.specs.declared.order.Phase.the-variants.{Start, Headed, Opened, Begun, Paid, Noted, Closed, Ended}
 use Rattle.checker.specs.declared.Checker.{Checker}
 
 -- the first record of a payment, and the second
 pub data Begins : Batch → Record → Type 0 where
@@ -47,10 +49,18 @@ pub data Follows (d : Direction) (b : Batch) : Phase → Record → Type 0 where
 
 -- ---- it may follow
 
+-- a record is one of these
+abbrev pub Among : Record → List Record → Type 0
+Among r rs = List·Memᴰ r rs
+
 -- of some records each
 abbrev Each : (Record → Type 0) → List Record → Type 0
 Each P [] = Unit {0}
 Each P (r ∷ rs) = P r × Each P rs
+
+of-each : (P : Record → Type 0) {r : Record} {rs : List Record} → Among r rs → Each P rs → P r
+of-each P (List·Memᴰ·head e) h = subst P (sym e) (h .0)
+of-each P (List·Memᴰ·tail m) h = of-each P m (h .1)
 
 each-follows : (p : Phase) (d : Direction) (b : Batch) → Each (Follows d b p) (follows p d b)
 each-follows Start d b = (heads, tt)
@@ -74,27 +84,41 @@ each-follows Closed d b = (next-batch, (ends, tt))
 each-follows Ended d b = tt
 
 -- a line is read as one of them, with that record's type and, where it may be left out, its letter
-read-each : (P : Record → Type 0) (type segment : ℕ) (rs : List Record) {r : Record} → Each P rs → readAs type segment rs ≡ Line r
-    → P r × (suits type segment r ≡ true)
-read-each P type segment [] each e = absurd (let z : _≡_ {A = ℕ} 0 1 = cc in omega arith)
-read-each P type segment (x ∷ rs) {r} each e = go (suits type segment x) refl (read-each P type segment rs (each .1)) e
+read-among : (type segment : ℕ) (rs : List Record) {r : Record} → readAs type segment rs ≡ Line r → Among r rs × (suits type segment r ≡ true)
+read-among type segment [] e = never (ap found e)
+read-among type segment (x ∷ rs) {r} e = go (suits type segment x) refl (read-among type segment rs) e
   where
-    go : (b : Bool) → suits type segment x ≡ b → (readAs type segment rs ≡ Line r → P r × (suits type segment r ≡ true))
-        → cond b (Line x) (readAs type segment rs) ≡ Line r → P r × (suits type segment r ≡ true)
-    go true q later e = let same : x ≡ r = cc in subst (λ (y : Record). P y × (suits type segment y ≡ true)) same (each .0, q)
-    go false q later e = later e
+    go : (b : Bool) → suits type segment x ≡ b → (readAs type segment rs ≡ Line r → Among r rs × (suits type segment r ≡ true))
+        → cond b (Line x) (readAs type segment rs) ≡ Line r → Among r (x ∷ rs) × (suits type segment r ≡ true)
+    go true q later e = let same : r ≡ x = cc in (List·Memᴰ·head {x = x} same, subst (λ (y : Record). suits type segment y ≡ true) (sym same) q)
+    go false q later e = let h = later e in (List·Memᴰ·tail (h .0), h .1)
 
 module _ (s : Checker) (rec : List ℕ) {r : Record} (e : lineIs s rec ≡ Line r) where
-  found : Follows (s .dir) (s .batch) (s .phase) r × (suits (place typePlace rec) (place segmentPlace rec) r ≡ true)
-  found =
-      read-each (Follows (s .dir) (s .batch) (s .phase)) (place typePlace rec) (place segmentPlace rec) (follows (s .phase) (s .dir) (s .batch))
-      (each-follows (s .phase) (s .dir) (s .batch)) e
+  read-so : Among r (follows (s .phase) (s .dir) (s .batch)) × (suits (place typePlace rec) (place segmentPlace rec) r ≡ true)
+  read-so = read-among (place typePlace rec) (place segmentPlace rec) (follows (s .phase) (s .dir) (s .batch)) e
+
+  pub among-by : Among r (follows (s .phase) (s .dir) (s .batch))
+  among-by = read-so .0
 
   pub follows-by : Follows (s .dir) (s .batch) (s .phase) r
-  follows-by = found .0
+  follows-by = of-each (Follows (s .dir) (s .batch) (s .phase)) (read-so .0) (each-follows (s .phase) (s .dir) (s .batch))
 
   pub type-read : place typePlace rec ≡ typeOf r
-  type-read = eqb-true _ _ (and-right (not (optional r) || eqb (place segmentPlace rec) 90) _ (found .1))
+  type-read = eqb-true _ _ (and-right (not (optional r) || eqb (place segmentPlace rec) 90) _ (read-so .1))
+
+  -- behind the file trailer nothing is
+  pub not-ended : ended (s .phase) ≡ false
+  not-ended = go (s .phase) e
+    where
+      go : (p : Phase) → readAs (place typePlace rec) (place segmentPlace rec) (follows p (s .dir) (s .batch)) ≡ Line r → ended p ≡ false
+      go Start e = refl
+      go Headed e = refl
+      go Opened e = refl
+      go Begun e = refl
+      go Paid e = refl
+      go Noted e = refl
+      go Closed e = refl
+      go Ended e = never (ap found e)
 
 -- ---- and what follows is read so, by its type and its letter
 
@@ -146,5 +170,29 @@ module _ (type segment : ℕ) where
   reads-as Closed d b ends e z f = rw e
 
 pub read-by : (s : Checker) (rec : List ℕ) {r : Record} → Follows (s .dir) (s .batch) (s .phase) r
-    → place typePlace rec ≡ typeOf r → (r ≡ SegmentZ → place segmentPlace rec ≡ 90) → (Begins (s .batch) r → place segmentPlace rec ≡ 90 → ⊥) → lineIs s rec ≡ Line r
+    → place typePlace rec ≡ typeOf r → (r ≡ SegmentZ → place segmentPlace rec ≡ 90) → (Begins (s .batch) r → place segmentPlace rec ≡ 90 → ⊥)
+    → lineIs s rec ≡ Line r
 read-by s rec f e z g = reads-as _ _ (s .phase) (s .dir) (s .batch) f e z g
+
+-- ---- the records of a payment
+
+pub begins-detail : {b : Batch} {r : Record} → Begins b r → typeOf r ≡ digitByte 3
+begins-detail by-A = refl
+begins-detail by-J = refl
+
+-- and the state behind each
+pub record Moved (s t : Checker) (p : Phase) : Type 0 where
+  pub phase : t .phase ≡ p
+  pub dir : t .dir ≡ s .dir
+  pub batch : t .batch ≡ s .batch
+
+pub moved-on : {s t u : Checker} {p q : Phase} → Moved s t p → Moved t u q → Moved s u q
+moved-on m n = record { phase = n .phase; dir = n .dir ∙ m .dir; batch = n .batch ∙ m .batch }
+
+pub begins-moves : {b : Batch} {r : Record} (s : Checker) (rec : List ℕ) → Begins b r → Moved s (next r s rec) Begun
+begins-moves s rec by-A = record { phase = refl; dir = refl; batch = refl }
+begins-moves s rec by-J = record { phase = refl; dir = refl; batch = refl }
+
+pub goes-on-moves : {b : Batch} {r : Record} (s : Checker) (rec : List ℕ) → GoesOn b r → Moved s (next r s rec) Paid
+goes-on-moves s rec by-B = record { phase = refl; dir = refl; batch = refl }
+goes-on-moves s rec by-J52 = record { phase = refl; dir = refl; batch = refl }
