@@ -13,7 +13,6 @@ use Rattle.layout.specs.declared.kinds.Fill.the-variants.{Number, Text, 
 use Rattle.layout.specs.declared.table.Entry.{Entry}
 use Rattle.layout.specs.declared.table.Span.{Span}
 use Rattle.layout.specs.declared.Record.{Record}
-use Rattle.layout.specs.declared.Record.the-variants.{FileHeader, BatchHeader, SegmentA, SegmentB, SegmentJ, SegmentJ52, SegmentZ, BatchTrailer, FileTrailer}
 
 -- ---- the records one after the other
 
