@@ -1,12 +1,13 @@
 -- How every call ends: of the checker in any state that calls lead to, of the writer behind any calls, with one record, and with digit
 -- strings; one statement for each. Assumes nothing.
 use mathlib.Core.Path.{_≡_, refl, sym, ap, _∙_}
-use mathlib.Core.Bool.{true}
+use mathlib.Core.Logic.{_⊎_, inl, inr}
+use mathlib.Core.Bool.{Bool, true, false, cond}
 use mathlib.Core.List.{List, [], _∷_}
 use Prim.Native.Nat.{ℕ, suc, _+_}
 use native.Mathlib.Omega.{arith}
 use lib.ListN.{length, length-append}
-use Rattle.answer.specs.Rules.{Rule, firstBroken}
+use Rattle.answer.specs.Rules.{Rule, refusedAs, firstBroken}
 use Rattle.answer.specs.Output.{Writes, room}
 use Rattle.answer.specs.laws.Order.{never, broken-refused}
 use Rattle.answer.specs.laws.Only.{Only, join}
@@ -18,13 +19,14 @@ use Rattle.layout.specs.declared.Direction.{Direction}
 use Rattle.layout.specs.declared.Record.{Record}
 use Rattle.fields.specs.Values.{recordOf, readRecord}
 use Rattle.checker.specs.Line.{rulesOfLine}
-use Rattle.checker.specs.Machine.{lineOf, answerTo, stepOf}
+use Rattle.checker.specs.Machine.{lineOf, sound, stepped, answerTo, stepOf}
 use Rattle.checker.specs.File.{linesOf, unless, steps, finish}
 use Rattle.checker.specs.Calls.{Reached, after-line, here, further}
 use Rattle.checker.specs.laws.Meaning.{line-accepted}
 use Rattle.checker.specs.laws.Reached.{reached, never-guarded}
 use Rattle.checker.specs.laws.Verdict.{Stopped, at-line, at-end, refused-rest, through-line-no}
 use Rattle.checker.specs.declared.Checker.{Checker}
+use Rattle.checker.specs.declared.Stepped.{Stepped}
 use Rattle.checker.specs.declared.file.Outcome.{Outcome}
 use Rattle.checker.specs.declared.file.Outcome.the-variants as outcome
 use Rattle.writer.specs.Given.{Call, recordsOf}
@@ -126,6 +128,20 @@ many {s} (l ∷ ls) c = go (stepOf s l .answer) refl (many ls (after-line l c))
 -- calls on the checker, in every state that calls lead to; those with many lines lead to such states too (`run-reached`)
 pub checker-calls : {s : Checker} → Reached s → CheckerCalls s
 checker-calls c = record { line = line-ends c; lines = λ part. many (linesOf part) c; end = end c }
+
+-- in any other state too, such as a caller makes of records that it has not tested: a state that no run produces is refused by 51 on no line
+pub any-state : (s : Checker) (l : List ℕ) → Ends s (stepOf s l .state) (λ n. (n ≡ lineOf s .0) ⊎ (n ≡ 0)) (stepOf s l .answer)
+unfolding table stepOf
+any-state s l = go (sound s) (firstBroken (rulesOfLine s l)) refl
+  where
+    guard : Stepped
+    guard = stepped s (refusedAs 51 0)
+
+    go : (b : Bool) (a : Answer) → firstBroken (rulesOfLine s l) ≡ a
+        → Ends s (cond b (answerTo a s l) guard .state) (λ n. (n ≡ lineOf s .0) ⊎ (n ≡ 0)) (cond b (answerTo a s l) guard .answer)
+    go true Accepted e = accepted
+    go true (Refused r) e = refused (line-rules s l .broken r e .1) (inl refl) refl
+    go false a e = refused tt (inr refl) refl
 
 -- ---- the writer
 
