@@ -47,7 +47,8 @@ reads-same bs cs {k} e p q =
     number-inj bs cs e (g .digits) (h .digits) (sym (g .is) ∙ h .is)
 
 -- digits that have one value
-pub value-same : (bs cs : List ℕ) → length bs ≡ length cs → length bs ≤ mostDigits → allDigits bs ≡ true → allDigits cs ≡ true → value bs ≡ value cs → bs ≡ cs
+pub value-same : (bs cs : List ℕ) → length bs ≡ length cs → length bs ≤ mostDigits → allDigits bs ≡ true → allDigits cs ≡ true
+    → value bs ≡ value cs → bs ≡ cs
 value-same bs cs e few p q v =
     number-inj bs cs e (leading-all bs (eqb-true _ _ p)) (leading-all cs (eqb-true _ _ q))
     (rw (le-leb (length bs) mostDigits few, le-leb (length cs) mostDigits (omega arith)) at v)
