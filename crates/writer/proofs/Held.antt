@@ -8,17 +8,12 @@ use borrow.Author.Tests.{le-leb, lt-leb, lt-ltb, le-ltb}
 use lib.Dec.{leb, ltb}
 use Rattle.layout.specs.laws.Bytes.{and-left}
 use Rattle.checker.specs.Machine.{sound}
-use Rattle.checker.specs.inner.Steps.{Bounded}
-use Rattle.checker.specs.laws.Bounds.{bounded}
 use Rattle.checker.specs.declared.Checker.{Checker}
 use Rattle.writer.specs.Refusals.{held}
 
 pub held-sound : (s : Checker) → held s ≡ true → sound s ≡ true
 unfolding held
 held-sound s e = and-left (sound s) _ e
-
-pub held-bounded : (s : Checker) → held s ≡ true → Bounded s
-held-bounded s e = bounded s (held-sound s e)
 
 -- a list of one
 pub or-none : (b : Bool) → b ≡ b || false
