@@ -23,6 +23,10 @@ On a b p = (a ≤ p) × (p ≤ b)
 abbrev pub In : Field → ℕ → Type 0
 In f p = On (f .from) (f .to) p
 
+-- a field of the record
+abbrev pub FieldOf : Record → Field → Type 0
+FieldOf r f = List·Memᴰ f (fieldsOf r)
+
 -- K, zeros, exact content, or O in a remittance
 pub data Fixed : Direction → Kind → Type 0 where
   blanks : {d : Direction} → Fixed d K
@@ -36,7 +40,7 @@ pub data Guarded (d : Direction) (r : Record) (l : List ℕ) (p : ℕ) : Type 0 
   line-end : On (suc recordBytes) lineBytes p → Guarded d r l p
   first-eight : On 1 typePlace p → Guarded d r l p
   detail : typeOf r ≡ digitByte 3 → On (numberField .from) segmentPlace p → Guarded d r l p
-  fixed : {f : Field} → List·Memᴰ f (fieldsOf r) → Fixed d (f .kind) → In f p → Guarded d r l p
+  fixed : {f : Field} → FieldOf r f → Fixed d (f .kind) → In f p → Guarded d r l p
   credit-amount : r ≡ SegmentA → In creditAmount p → Guarded d r l p
   boleto-values : r ≡ SegmentJ → On (nominalField .from) (fineField .to) p → Guarded d r l p
   boleto-amount : r ≡ SegmentJ → In boletoAmount p → Guarded d r l p

@@ -1,7 +1,7 @@
 -- The guarded places in the paper's own numbers, sentence by sentence: none of its list is left out. Assumes nothing.
 use mathlib.Core.Path.{_≡_, refl, subst⁻¹}
 use mathlib.Core.Logic.{_≢_}
-use mathlib.Core.List.{List, List·Memᴰ}
+use mathlib.Core.List.{List}
 use Prim.Native.Nat.{ℕ, _-_, _≤_}
 use native.Mathlib.Omega.{arith}
 use native.Mathlib.Decide.{decLe}
@@ -9,22 +9,22 @@ use lib.Dec.{lit≤}
 use Rattle.digits.specs.Digits.{digitByte, place}
 use Rattle.digits.specs.laws.Strings.{part-getD}
 use Rattle.boleto.specs.Guarded.{all, currency, check}
-use Rattle.layout.specs.Table.{K, O, Zeros, Exact, Field, part, typeOf, fieldsOf, barcodeField}
+use Rattle.layout.specs.Table.{K, O, Zeros, Exact, Field, part, typeOf, barcodeField}
 use Rattle.layout.specs.declared.Direction.{Direction}
 use Rattle.layout.specs.declared.Direction.the-variants.{Remittance}
 use Rattle.layout.specs.declared.Record.{Record}
 use Rattle.layout.specs.declared.Record.the-variants.{SegmentA, SegmentJ, BatchTrailer, FileTrailer}
 use Rattle.checker.specs.Line.{recordIn}
-use Rattle.promises.specs.Guarded.{On, In, Fixed, blanks, zeros, exact, optional, Guarded, line-end, first-eight, detail, fixed, credit-amount, boleto-values, boleto-amount, batch-trailer, file-trailer, barcode}
+use Rattle.promises.specs.Guarded.{On, In, FieldOf, Fixed, blanks, zeros, exact, optional, Guarded, line-end, first-eight, detail, fixed, credit-amount, boleto-values, boleto-amount, batch-trailer, file-trailer, barcode}
 
 pub record AsListed (d : Direction) (l : List ℕ) (p : ℕ) : Type 0 where
   pub ends : {r : Record} → On 241 242 p → Guarded d r l p
   pub every-line : {r : Record} → On 1 8 p → Guarded d r l p
   pub details : {r : Record} → typeOf r ≡ digitByte 3 → On 9 14 p → Guarded d r l p
-  pub blank : {r : Record} {f : Field} → List·Memᴰ f (fieldsOf r) → f .kind ≡ K → In f p → Guarded d r l p
-  pub zero : {r : Record} {f : Field} → List·Memᴰ f (fieldsOf r) → f .kind ≡ Zeros → In f p → Guarded d r l p
-  pub exactly : {r : Record} {f : Field} {bs : List ℕ} → List·Memᴰ f (fieldsOf r) → f .kind ≡ Exact bs → In f p → Guarded d r l p
-  pub blank-remitted : {r : Record} {f : Field} → List·Memᴰ f (fieldsOf r) → d ≡ Remittance → f .kind ≡ O → In f p → Guarded d r l p
+  pub blank : {r : Record} {f : Field} → FieldOf r f → f .kind ≡ K → In f p → Guarded d r l p
+  pub zero : {r : Record} {f : Field} → FieldOf r f → f .kind ≡ Zeros → In f p → Guarded d r l p
+  pub exactly : {r : Record} {f : Field} {bs : List ℕ} → FieldOf r f → f .kind ≡ Exact bs → In f p → Guarded d r l p
+  pub blank-remitted : {r : Record} {f : Field} → FieldOf r f → d ≡ Remittance → f .kind ≡ O → In f p → Guarded d r l p
   pub amount-of-A : On 120 134 p → Guarded d SegmentA l p
   pub values-of-J : On 100 144 p → Guarded d SegmentJ l p
   pub amount-of-J : On 153 167 p → Guarded d SegmentJ l p
