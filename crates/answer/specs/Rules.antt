@@ -50,7 +50,12 @@ pub data Allowed (rules : List Rule) : Answer → Type 0 where
   accepted : AllKept rules → Allowed rules Accepted
   refused : {r : Refusal} → Broken rules r → Allowed rules (Refused r)
 
--- ---- answers joined, and put on a line
+-- ---- answers asked, joined, and put on a line
+
+-- whether an answer is an acceptance
+abbrev pub accepts : Answer → Bool
+accepts Accepted = true
+accepts (Refused r) = false
 
 -- the later answer counts where the first accepts
 abbrev pub andThen : Answer → Answer → Answer

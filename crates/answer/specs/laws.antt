@@ -2,3 +2,4 @@
 pub mod Order
 pub mod Only
 pub mod Frame
+pub mod Sums

@@ -5,10 +5,11 @@ pub mod numbers;
 ghost use mathlib.Core.Path.{_≡_};
 ghost use mathlib.Core.List.{_∷_, []};
 ghost use Prim.Native.Nat.{_+_};
-ghost use lib.Dec.{leb, ltb};
+ghost use lib.Dec.{leb, ltb, eqb};
 ghost use Rattle.answer.specs.Limits.{fileCents, mostRecords};
 ghost use Rattle.answer.specs.Output.{room};
-ghost use Rattle.answer.specs.Rules.{rule, refusedAs, firstBroken, andThen, onLine};
+ghost use Rattle.answer.specs.Rules.{rule, refusedAs, firstBroken, accepts, andThen, onLine};
+ghost use Rattle.answer.specs.Sums.{capped};
 
 pub struct Cents(pub u64);
 
@@ -29,13 +30,48 @@ pub enum Answer {
 }
 
 // Digit strings and one record alone have no line.
-const NO_LINE: LineNo = LineNo(0);
+pub const NO_LINE: LineNo = LineNo(0);
 
-const FILE_CENTS: Cents = Cents(1000000000000000000);
+pub const FILE_CENTS: Cents = Cents(1000000000000000000);
 
 const FILE_RECORDS: RecordCount = RecordCount(999999);
 
+// The sum, or the largest number where that does not fit.
+fn capped_sum(a: u64, b: u64) -> u64
+    ensures { λ r. ⌜ r ≡ capped (a + b) ⌝ }
+{
+    if b <= u64::MAX - a { a + b } else { u64::MAX }
+}
+
 impl Cents {
+    // These and more. A sum that does not fit 64 bits stays at the largest number.
+    pub fn plus(self, more: Cents) -> Cents
+        ensures { λ r. ⌜ r .0 ≡ capped (self .0 + more .0) ⌝ }
+    {
+        Cents(capped_sum(self.0, more.0))
+    }
+
+    // Whether these are as many as the others.
+    pub fn equal(self, others: Cents) -> bool
+        ensures { λ r. ⌜ r ≡ eqb (self .0) (others .0) ⌝ }
+    {
+        self.0 == others.0
+    }
+
+    // Whether these are at most a limit.
+    pub fn at_most(self, limit: Cents) -> bool
+        ensures { λ r. ⌜ r ≡ leb (self .0) (limit .0) ⌝ }
+    {
+        self.0 <= limit.0
+    }
+
+    // Whether these are below a limit.
+    pub fn below(self, limit: Cents) -> bool
+        ensures { λ r. ⌜ r ≡ ltb (self .0) (limit .0) ⌝ }
+    {
+        self.0 < limit.0
+    }
+
     // Whether these and `more` stay below `limit`. Their sum is not made, so it can't wrap.
     pub fn stay_below(self, more: Cents, limit: Cents) -> bool
         ensures { λ r. ⌜ r ≡ ltb (self .0 + more .0) (limit .0) ⌝ }
@@ -52,6 +88,27 @@ impl Cents {
 }
 
 impl RecordCount {
+    // These and more. A sum that does not fit 64 bits stays at the largest number.
+    pub fn plus(self, more: RecordCount) -> RecordCount
+        ensures { λ r. ⌜ r .0 ≡ capped (self .0 + more .0) ⌝ }
+    {
+        RecordCount(capped_sum(self.0, more.0))
+    }
+
+    // These and the next one.
+    pub fn and_one(self) -> RecordCount
+        ensures { λ r. ⌜ r .0 ≡ capped (self .0 + 1) ⌝ }
+    {
+        self.plus(RecordCount(1))
+    }
+
+    // Whether these are at most a limit.
+    pub fn at_most(self, limit: RecordCount) -> bool
+        ensures { λ r. ⌜ r ≡ leb (self .0) (limit .0) ⌝ }
+    {
+        self.0 <= limit.0
+    }
+
     // Whether these and `more` are at most `limit`. Their sum is not made, so it can't wrap.
     pub fn stay_within(self, more: RecordCount, limit: RecordCount) -> bool
         ensures { λ r. ⌜ r ≡ leb (self .0 + more .0) (limit .0) ⌝ }
@@ -67,7 +124,27 @@ impl RecordCount {
     }
 }
 
+impl LineNo {
+    // The line behind so many records: each of them is a line.
+    pub fn behind(records: RecordCount) -> LineNo
+        ensures { λ r. ⌜ r .0 ≡ capped (records .0 + 1) ⌝ }
+    {
+        LineNo(capped_sum(records.0, 1))
+    }
+}
+
 impl Answer {
+    // The question that most callers ask.
+    pub fn is_accepted(self) -> bool
+        ensures { λ r. ⌜ r ≡ accepts self ⌝ }
+    {
+        match self {
+            Answer::Accepted => true,
+            Answer::Refused(_) => false,
+        }
+    }
+
+    // A refusal on no line.
     pub fn refused(number: u8, place: usize) -> Answer
         ensures { λ r. ⌜ r ≡ refusedAs number place ⌝ }
     {

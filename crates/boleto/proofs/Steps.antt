@@ -4,7 +4,7 @@ use mathlib.Core.List.{List, _++_}
 use Prim.Native.Nat.{ℕ, _≤_}
 use lib.ListN.{length, drop}
 use Rattle.digits.specs.laws.Strings.{spelled-out, front}
-use Rattle.boleto.specs.Strings.{barcodeDigits, lineDigits, lineOf, barcodeOf}
+use Rattle.boleto.specs.Strings.{barcodeDigits, lineDigits, digitLineOf, barcodeOf}
 use Rattle.boleto.specs.inner.Steps.{laid, sealing}
 
 pub barcode-laid : (l out : List ℕ) → length l ≡ lineDigits → barcodeDigits ≤ length out →
@@ -14,6 +14,6 @@ barcode-laid l out h k = rw (spelled-out lineDigits l h, front barcodeDigits out
 
 pub line-laid : (bar out : List ℕ) → length bar ≡ barcodeDigits → lineDigits ≤ length out →
     laid (sealing (laid (sealing (laid (sealing (laid (laid out 1 bar 1 4) 5 bar 20 24) 1 10) 11 bar 25 34) 11 21) 22 bar 35 44) 22 32) 33 bar 5 19
-    ≡ lineOf bar ++ drop lineDigits out
-unfolding lineOf
+    ≡ digitLineOf bar ++ drop lineDigits out
+unfolding digitLineOf
 line-laid bar out h k = rw (spelled-out barcodeDigits bar h, front lineDigits out k)

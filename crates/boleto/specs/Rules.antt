@@ -41,5 +41,5 @@ checkRules line =
     ∷ rule 44 lineCheck (generalFits (barcodeOf line))
     ∷ []
 
-unfoldable pub lineRules : List ℕ → List Rule
-lineRules line = headRules lineDigits line ++ checkRules line
+unfoldable pub digitLineRules : List ℕ → List Rule
+digitLineRules line = headRules lineDigits line ++ checkRules line

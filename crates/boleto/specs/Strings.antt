@@ -34,8 +34,8 @@ centsDigits bar = places 10 19 bar
 abbrev pub checked : List ℕ → List ℕ
 checked bs = bs ++ digitByte (checkDigit Ten bs) ∷ []
 
-unfoldable pub lineOf : List ℕ → List ℕ
-lineOf bar =
+unfoldable pub digitLineOf : List ℕ → List ℕ
+digitLineOf bar =
     checked (places 1 4 bar ++ places 20 24 bar)
     ++ checked (places 25 34 bar)
     ++ checked (places 35 44 bar)

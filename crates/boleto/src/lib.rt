@@ -13,8 +13,8 @@ ghost use Prim.Native.Nat.{_≤_};
 ghost use lib.ListN.{length};
 ghost use Rattle.answer.specs.Rules.{firstBroken};
 ghost use Rattle.answer.specs.Output.{Writes};
-ghost use Rattle.boleto.specs.Strings.{barcodeDigits, lineDigits, lineOf, barcodeOf};
-ghost use Rattle.boleto.specs.Rules.{currencyFits, generalFits, headRules, barcodeRules, fieldRule, checkRules, lineRules};
+ghost use Rattle.boleto.specs.Strings.{barcodeDigits, lineDigits, digitLineOf, barcodeOf};
+ghost use Rattle.boleto.specs.Rules.{currencyFits, generalFits, headRules, barcodeRules, fieldRule, checkRules, digitLineRules};
 
 const BARCODE_DIGITS: usize = 44;
 
@@ -27,6 +27,7 @@ const BARCODE_CHECK: usize = 5;
 
 const LINE_CHECK: usize = 33;
 
+// Whether the currency of a barcode or a digit line is 9.
 pub fn currency_fits(s: &[u8]) -> bool
     ensures { λ r. ⌜ r ≡ currencyFits (now (s .entry)) ⌝ }
 {
@@ -57,6 +58,7 @@ pub fn is_sealed(bar: &[u8]) -> bool
     digits::is_sealed(Modulus::Eleven, bar, BARCODE_CHECK - 1)
 }
 
+// A barcode: its length, its digits, its currency and its general check.
 pub fn check_barcode(bar: &[u8]) -> Answer
     ensures { λ r. ⌜ r ≡ firstBroken (barcodeRules (now (bar .entry))) ⌝ }
 {
@@ -95,8 +97,9 @@ fn check_digits(line: &[u8]) -> Answer
     first.and_then(second.and_then(third.and_then(general)))
 }
 
-pub fn check_line(line: &[u8]) -> Answer
-    ensures { λ r. ⌜ r ≡ firstBroken (lineRules (now (line .entry))) ⌝ }
+// A digit line: its length, its digits, its currency, its three fields and its general check.
+pub fn check_digit_line(line: &[u8]) -> Answer
+    ensures { λ r. ⌜ r ≡ firstBroken (digitLineRules (now (line .entry))) ⌝ }
 {
     let head = check_head(line, LINE_DIGITS);
     match head {
@@ -107,7 +110,7 @@ pub fn check_line(line: &[u8]) -> Answer
 
 // Writes the line of a barcode over the first 47 bytes of out.
 pub fn barcode_to_line(bar: &[u8], out: &mut [u8]) -> Answer
-    ensures { λ r. ⌜ Writes (barcodeRules (now (bar .entry))) lineDigits (lineOf (now (bar .entry))) (now (out .entry)) r (now (out .exit)) ⌝ }
+    ensures { λ r. ⌜ Writes (barcodeRules (now (bar .entry))) lineDigits (digitLineOf (now (bar .entry))) (now (out .entry)) r (now (out .exit)) ⌝ }
 {
     let answer = check_barcode(bar).and_then(Answer::room(LINE_DIGITS, out));
     match answer {
@@ -121,9 +124,9 @@ pub fn barcode_to_line(bar: &[u8], out: &mut [u8]) -> Answer
 
 // Writes the barcode of a line over the first 44 bytes of out.
 pub fn line_to_barcode(line: &[u8], out: &mut [u8]) -> Answer
-    ensures { λ r. ⌜ Writes (lineRules (now (line .entry))) barcodeDigits (barcodeOf (now (line .entry))) (now (out .entry)) r (now (out .exit)) ⌝ }
+    ensures { λ r. ⌜ Writes (digitLineRules (now (line .entry))) barcodeDigits (barcodeOf (now (line .entry))) (now (out .entry)) r (now (out .exit)) ⌝ }
 {
-    let answer = check_line(line).and_then(Answer::room(BARCODE_DIGITS, out));
+    let answer = check_digit_line(line).and_then(Answer::room(BARCODE_DIGITS, out));
     match answer {
         Answer::Accepted => {
             write_barcode(line, out);

@@ -4,7 +4,7 @@ ghost use mathlib.Core.Path.{_≡_};
 ghost use mathlib.Core.List.{_++_};
 ghost use Prim.Native.Nat.{_+_, _-_, _≤_, _<_};
 ghost use lib.ListN.{length, drop};
-ghost use Rattle.boleto.specs.Strings.{barcodeDigits, lineDigits, lineOf, barcodeOf};
+ghost use Rattle.boleto.specs.Strings.{barcodeDigits, lineDigits, digitLineOf, barcodeOf};
 ghost use Rattle.boleto.specs.inner.Steps.{laid, sealing};
 
 // Copies the places from `first` to `last` of src to out, from place `to` on.
@@ -59,7 +59,7 @@ pub(crate) fn write_barcode(line: &[u8], out: &mut [u8])
 pub(crate) fn write_line(bar: &[u8], out: &mut [u8])
     requires { ⌜ length (now bar) ≡ barcodeDigits ⌝ }
     requires { ⌜ lineDigits ≤ length (now out) ⌝ }
-    ensures { λ _. ⌜ now (out .exit) ≡ lineOf (now (bar .entry)) ++ drop lineDigits (now (out .entry)) ⌝ }
+    ensures { λ _. ⌜ now (out .exit) ≡ digitLineOf (now (bar .entry)) ++ drop lineDigits (now (out .entry)) ⌝ }
 {
     // bank, currency and the first free digits; the other free digits; general check, factor and cents
     put(bar, 1, 4, out, 1);

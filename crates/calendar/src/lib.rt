@@ -55,6 +55,7 @@ impl Date {
         }
     }
 
+    // Whether there is such a day, in the years 1997 to 2199.
     pub fn exists(self) -> bool
         ensures { λ r. ⌜ r ≡ exists self ⌝ }
     {

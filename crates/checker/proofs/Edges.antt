@@ -10,36 +10,36 @@ use Rattle.layout.specs.declared.Record.the-variants.{SegmentZ, BatchTrailer}
 use Rattle.layout.specs.declared.pairs.Batch.{Batch}
 use Rattle.layout.specs.declared.pairs.Batch.the-variants.{Credit, Boleto, Unknown}
 use Rattle.checker.specs.Order.{first, second, follows, readAs}
-use Rattle.checker.specs.inner.Steps.{isReturn, dueOf, endAs}
-use Rattle.checker.specs.declared.order.Due.the-variants.{Line}
+use Rattle.checker.specs.inner.Steps.{isReturn, readingOf, endAs}
+use Rattle.checker.specs.declared.order.Reading.the-variants.{Line}
 use Rattle.checker.specs.declared.order.Phase.{Phase}
-use Rattle.checker.specs.declared.order.Phase.the-variants.{Start, Headed, Opened, Begun, Paid, Noted, Closed, Ended}
+use Rattle.checker.specs.declared.order.Phase.the-variants.{Start, Headed, Opened, Begun, Paid, BehindZ, Closed, Ended}
 
--- a detail is the one that is due
+-- a detail is the one that is expected
 module _ (segment : ℕ) where
-  pub first-due : (b : Batch) → dueOf (first b) ≡ readAs 51 segment (first b)
-  first-due Credit = refl
-  first-due Boleto = refl
-  first-due Unknown = refl
+  pub first-reading : (b : Batch) → readingOf (first b) ≡ readAs 51 segment (first b)
+  first-reading Credit = refl
+  first-reading Boleto = refl
+  first-reading Unknown = refl
 
-  pub second-due : (b : Batch) → dueOf (second b) ≡ readAs 51 segment (second b)
-  second-due Credit = refl
-  second-due Boleto = refl
-  second-due Unknown = refl
+  pub second-reading : (b : Batch) → readingOf (second b) ≡ readAs 51 segment (second b)
+  second-reading Credit = refl
+  second-reading Boleto = refl
+  second-reading Unknown = refl
 
-  pub more-due : (b : Batch) → dueOf (first b) ≡ readAs 51 segment (first b ++ BatchTrailer ∷ [])
-  more-due Credit = refl
-  more-due Boleto = refl
-  more-due Unknown = refl
+  pub more-reading : (b : Batch) → readingOf (first b) ≡ readAs 51 segment (first b ++ BatchTrailer ∷ [])
+  more-reading Credit = refl
+  more-reading Boleto = refl
+  more-reading Unknown = refl
 
   -- behind a payment, Z or the next
-  pub noted-due : (d : Direction) (b : Batch) → isReturn d && eqb segment 90 ≡ true → Line SegmentZ ≡ readAs 51 segment (follows Paid d b)
-  noted-due Remittance b e = cc
-  noted-due Return b e = rw e
+  pub z-reading : (d : Direction) (b : Batch) → isReturn d && eqb segment 90 ≡ true → Line SegmentZ ≡ readAs 51 segment (follows Paid d b)
+  z-reading Remittance b e = cc
+  z-reading Return b e = rw e
 
-  pub next-due : (d : Direction) (b : Batch) → isReturn d && eqb segment 90 ≡ false → dueOf (first b) ≡ readAs 51 segment (follows Paid d b)
-  next-due Remittance b e = more-due b
-  next-due Return b e = rw e (more-due b)
+  pub next-reading : (d : Direction) (b : Batch) → isReturn d && eqb segment 90 ≡ false → readingOf (first b) ≡ readAs 51 segment (follows Paid d b)
+  next-reading Remittance b e = more-reading b
+  next-reading Return b e = rw e (more-reading b)
 
 -- any other line is no detail
 pub no-detail : (p : Phase) (d : Direction) (b : Batch) (type segment : ℕ) → eqb type 51 ≡ false → endAs p type ≡ readAs type segment (follows p d b)
@@ -57,8 +57,8 @@ no-detail Paid Remittance Unknown type segment e = refl
 no-detail Paid Return Credit type segment e = rw (e, and-false)
 no-detail Paid Return Boleto type segment e = rw (e, and-false)
 no-detail Paid Return Unknown type segment e = rw (e, and-false)
-no-detail Noted d Credit type segment e = rw e
-no-detail Noted d Boleto type segment e = rw e
-no-detail Noted d Unknown type segment e = refl
+no-detail BehindZ d Credit type segment e = rw e
+no-detail BehindZ d Boleto type segment e = rw e
+no-detail BehindZ d Unknown type segment e = refl
 no-detail Closed d b type segment e = refl
 no-detail Ended d b type segment e = refl

@@ -2,4 +2,4 @@
 mod Edges
 mod Fields
 mod Length
-mod Turns
+mod Rounds

@@ -18,8 +18,8 @@ use Rattle.layout.specs.declared.Record.{Record}
 use Rattle.layout.specs.declared.Record.the-variants.{FileHeader, BatchHeader, SegmentA, SegmentB, SegmentJ, SegmentJ52, SegmentZ, BatchTrailer, FileTrailer}
 use Rattle.checker.specs.Order.{follows, readAs, ended}
 use Rattle.checker.specs.Totals.{paymentsOf}
-use Rattle.checker.specs.declared.order.Due.{Due}
-use Rattle.checker.specs.declared.order.Due.the-variants.{Line, Nothing}
+use Rattle.checker.specs.declared.order.Reading.{Reading}
+use Rattle.checker.specs.declared.order.Reading.the-variants.{Line, Nothing}
 use Rattle.checker.specs.declared.Checker.{Checker}
 
 -- ---- what a line asks
@@ -103,10 +103,6 @@ boletoRules rec =
 abbrev pub houseRules : Record → List ℕ → List Rule
 houseRules r rec = cond (isOneOf r (SegmentJ ∷ [])) (boletoRules rec) []
 
--- of a record of the right length
-abbrev pub houseAlone : Record → List ℕ → List Rule
-houseAlone r rec = rule 1 0 (eqb (length rec) recordBytes) ∷ houseRules r rec
-
 -- ---- behind the type, by what the line is read as
 
 unfoldable pub detailRules : Record → Checker → List ℕ → List Rule
@@ -174,19 +170,19 @@ recordIn line = take recordBytes line
 abbrev pub endsWith : ℕ → ℕ → List ℕ → Rule
 endsWith p byte line = rule 5 p (eqb (place p line) byte)
 
-abbrev pub lineIs : Checker → List ℕ → Due
+abbrev pub lineIs : Checker → List ℕ → Reading
 lineIs s rec = readAs (place typePlace rec) (place segmentPlace rec) (follows (s .phase) (s .dir) (s .batch))
 
-abbrev pub found : Due → Bool
+abbrev pub found : Reading → Bool
 found (Line r) = true
 found Nothing = false
 
-abbrev pub dueRules : Due → Checker → List ℕ → List Rule
-dueRules (Line r) s rec = rulesAs r s rec
-dueRules Nothing s rec = []
+abbrev pub readingRules : Reading → Checker → List ℕ → List Rule
+readingRules (Line r) s rec = rulesAs r s rec
+readingRules Nothing s rec = []
 
 unfoldable pub typeRules : Checker → List ℕ → List Rule
-typeRules s rec = rule 6 typePlace (found (lineIs s rec)) ∷ dueRules (lineIs s rec) s rec
+typeRules s rec = rule 6 typePlace (found (lineIs s rec)) ∷ readingRules (lineIs s rec) s rec
 
 unfoldable pub lineRules : Checker → List ℕ → List Rule
 lineRules s line =

@@ -22,8 +22,8 @@ use Rattle.layout.specs.declared.pairs.Batch.the-variants.{Unknown}
 use Rattle.checker.specs.Order.{after}
 use Rattle.checker.specs.Totals.{none, add, counts, amountDigits}
 use Rattle.checker.specs.Line.{recordIn, lineIs, rulesOfLine, mostBatches, mostPayments}
-use Rattle.checker.specs.declared.order.Due.{Due}
-use Rattle.checker.specs.declared.order.Due.the-variants.{Line, Nothing}
+use Rattle.checker.specs.declared.order.Reading.{Reading}
+use Rattle.checker.specs.declared.order.Reading.the-variants.{Line, Nothing}
 use Rattle.checker.specs.declared.order.Phase.{Phase}
 use Rattle.checker.specs.declared.order.Phase.the-variants.{Start}
 use Rattle.checker.specs.declared.totals.Totals.{Totals}
@@ -63,7 +63,7 @@ next SegmentZ s rec = inBatch SegmentZ (s .batch) s rec
 next BatchTrailer s rec = state (after BatchTrailer) (s .dir) Unknown (s .bank) (add (s .closed) (add (s .current) (counts BatchTrailer rec))) none
 next FileTrailer s rec = state (after FileTrailer) (s .dir) Unknown (s .bank) (add (s .closed) (counts FileTrailer rec)) (s .current)
 
-abbrev pub moved : Due → Checker → List ℕ → Checker
+abbrev pub moved : Reading → Checker → List ℕ → Checker
 moved (Line r) s rec = next r s rec
 moved Nothing s rec = s
 
@@ -90,10 +90,6 @@ sound s =
     && (leb (s .current .records .0) batchRecordsMost
     && (leb (s .current .payments) mostPayments
     && leb (s .current .cents .0) batchCentsMost))))))
-
--- the state behind a record, for whoever has tested it; a state that no run produces, or another length, stays
-abbrev pub withRecord : Record → Checker → List ℕ → Checker
-withRecord r s rec = cond (sound s && eqb (length rec) recordBytes) (next r s rec) s
 
 -- ---- a step
 

@@ -12,9 +12,9 @@ use Rattle.layout.specs.declared.Record.the-variants.{FileHeader, BatchHeader, 
 use Rattle.layout.specs.declared.pairs.Batch.{Batch}
 use Rattle.layout.specs.declared.pairs.Batch.the-variants.{Credit, Boleto, Unknown}
 use Rattle.checker.specs.declared.order.Phase.{Phase}
-use Rattle.checker.specs.declared.order.Phase.the-variants.{Start, Headed, Opened, Begun, Paid, Noted, Closed, Ended}
-use Rattle.checker.specs.declared.order.Due.{Due}
-use Rattle.checker.specs.declared.order.Due.the-variants.{Line, Nothing}
+use Rattle.checker.specs.declared.order.Phase.the-variants.{Start, Headed, Opened, Begun, Paid, BehindZ, Closed, Ended}
+use Rattle.checker.specs.declared.order.Reading.{Reading}
+use Rattle.checker.specs.declared.order.Reading.the-variants.{Line, Nothing}
 
 -- the records of a payment
 abbrev pub payment : Batch → List Record
@@ -36,7 +36,7 @@ follows Opened d b = first b
 follows Begun d b = second b
 follows Paid Remittance b = first b ++ BatchTrailer ∷ []
 follows Paid Return b = SegmentZ ∷ first b ++ BatchTrailer ∷ []
-follows Noted d b = first b ++ BatchTrailer ∷ []
+follows BehindZ d b = first b ++ BatchTrailer ∷ []
 follows Closed d b = BatchHeader ∷ FileTrailer ∷ []
 follows Ended d b = []
 
@@ -48,7 +48,7 @@ after SegmentA = Begun
 after SegmentB = Paid
 after SegmentJ = Begun
 after SegmentJ52 = Paid
-after SegmentZ = Noted
+after SegmentZ = BehindZ
 after BatchTrailer = Closed
 after FileTrailer = Ended
 
@@ -58,7 +58,7 @@ ended Headed = false
 ended Opened = false
 ended Begun = false
 ended Paid = false
-ended Noted = false
+ended BehindZ = false
 ended Closed = false
 ended Ended = true
 
@@ -70,6 +70,6 @@ abbrev pub suits : ℕ → ℕ → Record → Bool
 suits type segment r = (not (optional r) || eqb segment letterZ) && eqb type (typeOf r)
 
 -- what a line of this type and segment is read as, of the lines that may follow
-abbrev pub readAs : ℕ → ℕ → List Record → Due
+abbrev pub readAs : ℕ → ℕ → List Record → Reading
 readAs type segment [] = Nothing
 readAs type segment (r ∷ rs) = cond (suits type segment r) (Line r) (readAs type segment rs)

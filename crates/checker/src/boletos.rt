@@ -2,14 +2,20 @@
 use super::places;
 use super::totals::amount;
 use answer::Answer;
+use answer::Cents;
 use answer::numbers;
 use calendar::Date;
 use layout::Record;
 ghost use mathlib.Core.Path.{_≡_};
+ghost use Prim.Native.Nat.{_<_, _^_};
 ghost use lib.ListN.{length};
 ghost use Rattle.answer.specs.Rules.{firstBroken};
-ghost use Rattle.layout.specs.Table.{recordBytes};
-ghost use Rattle.checker.specs.Line.{dueFits, centsFit, amountFits, boletoRules, houseRules};
+ghost use Rattle.layout.specs.Table.{recordBytes, nominalField};
+ghost use Rattle.checker.specs.Totals.{amountDigits};
+ghost use Rattle.checker.specs.Line.{cents, dueFits, centsFit, amountFits, boletoRules, houseRules};
+
+// A barcode that leaves the cents to the record.
+const NOT_STATED: Cents = Cents(0);
 
 // A factor other than 0 gives the due date.
 fn due_fits(rec: &[u8]) -> bool
@@ -23,22 +29,24 @@ fn due_fits(rec: &[u8]) -> bool
 }
 
 // Cents other than 0 equal the nominal.
-fn cents_fit(rec: &[u8]) -> bool
+fn cents_fit(rec: &[u8], nominal: Cents) -> bool
     requires { ⌜ length (now rec) ≡ recordBytes ⌝ }
+    requires { ⌜ nominal .0 ≡ cents nominalField (now rec) ⌝ }
     ensures { λ r. ⌜ r ≡ centsFit (now (rec .entry)) ⌝ }
 {
     let bar = &rec[places::BARCODE_FROM - 1..places::BARCODE_TO];
-    let cents = digits::value(&bar[places::CENTS_FROM - 1..places::CENTS_TO]);
-    (cents == 0) | (cents == amount(rec, places::NOMINAL))
+    let coded = Cents(digits::value(&bar[places::CENTS_FROM - 1..places::CENTS_TO]));
+    coded.equal(NOT_STATED) | coded.equal(nominal)
 }
 
 // The amount is nominal less discount plus fine.
-fn amount_fits(rec: &[u8]) -> bool
+fn amount_fits(rec: &[u8], nominal: Cents) -> bool
     requires { ⌜ length (now rec) ≡ recordBytes ⌝ }
+    requires { ⌜ (nominal .0 ≡ cents nominalField (now rec)) × (nominal .0 < 10 ^ amountDigits) ⌝ }
     ensures { λ r. ⌜ r ≡ amountFits (now (rec .entry)) ⌝ }
 {
-    let paid = amount(rec, places::BOLETO_AMOUNT) + amount(rec, places::DISCOUNT);
-    paid == amount(rec, places::NOMINAL) + amount(rec, places::FINE)
+    let paid = amount(rec, places::BOLETO_AMOUNT).plus(amount(rec, places::DISCOUNT));
+    paid.equal(nominal.plus(amount(rec, places::FINE)))
 }
 
 fn check_boleto(rec: &[u8]) -> Answer
@@ -48,8 +56,10 @@ fn check_boleto(rec: &[u8]) -> Answer
     let general = boleto::is_sealed(&rec[places::BARCODE_FROM - 1..places::BARCODE_TO]);
     let check = Answer::test(numbers::GENERAL_CHECK, places::GENERAL_CHECK, general);
     let due = Answer::test(numbers::DUE_DATE, places::FACTOR, due_fits(rec));
-    let cents = Answer::test(numbers::CENTS, places::CENTS, cents_fit(rec));
-    let amount = Answer::test(numbers::AMOUNT, places::BOLETO_AMOUNT, amount_fits(rec));
+    let nominal = amount(rec, places::NOMINAL);
+    let cents = Answer::test(numbers::CENTS, places::CENTS, cents_fit(rec, nominal));
+    let paid = amount_fits(rec, nominal);
+    let amount = Answer::test(numbers::AMOUNT, places::BOLETO_AMOUNT, paid);
     check.and_then(due.and_then(cents.and_then(amount)))
 }
 

@@ -32,7 +32,8 @@ fn part_end(at: usize, len: usize) -> usize
 }
 
 impl Checker {
-    // Many lines, up to the first refusal. The last may be cut short, which refuses it.
+    // Many lines, up to the first refusal, which leaves the state that the call was given. The last
+    // line may be cut short, which refuses it.
     pub fn run(self, part: &[u8]) -> Stepped
         ensures { λ r. ⌜ r ≡ run self (now (part .entry)) ⌝ }
     {
@@ -46,7 +47,10 @@ impl Checker {
             match answer {
                 Answer::Accepted => {}
                 Answer::Refused(_) => {
-                    return stepped;
+                    return Stepped {
+                        state: self,
+                        answer,
+                    };
                 }
             }
             let next = stepped.state;
@@ -96,6 +100,7 @@ impl Checker {
     }
 }
 
+// A whole file.
 pub fn check_file(file: &[u8]) -> Outcome
     ensures { λ r. ⌜ r ≡ checkFile (now (file .entry)) ⌝ }
 {

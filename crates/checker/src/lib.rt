@@ -6,17 +6,18 @@ mod lines;
 mod moves;
 mod order;
 pub mod places;
+mod reads;
 mod totals;
 
 use answer::Answer;
 use answer::LineNo;
+use answer::NO_LINE;
 use answer::numbers;
 pub use file::Outcome;
 pub use file::check_file;
 use layout::Batch;
 use layout::Direction;
 use layout::RECORD_BYTES;
-use layout::Record;
 pub use limits::HEADER_BATCH;
 pub use limits::MOST_BATCHES;
 pub use limits::MOST_PAYMENTS;
@@ -25,8 +26,7 @@ pub use order::Phase;
 pub use totals::Totals;
 ghost use mathlib.Core.Path.{_≡_};
 ghost use mathlib.Core.Bool.{cond};
-ghost use Rattle.answer.specs.Rules.{noLine, firstBroken};
-ghost use Rattle.checker.specs.Line.{houseAlone};
+ghost use Rattle.answer.specs.Rules.{noLine};
 ghost use Rattle.checker.specs.Machine.{lineOf, sound, stepOf, start};
 ghost use Rattle.checker.specs.inner.Steps.{Bounded};
 
@@ -54,9 +54,10 @@ impl Checker {
         requires { ⌜ Bounded self ⌝ }
         ensures { λ r. ⌜ r ≡ lineOf self ⌝ }
     {
-        LineNo(self.closed.records.0 + self.current.records.0 + 1)
+        LineNo::behind(self.closed.records.plus(self.current.records))
     }
 
+    // Before any line.
     pub fn start() -> Checker
         ensures { λ r. ⌜ r ≡ start ⌝ }
     {
@@ -103,6 +104,7 @@ impl Checker {
         self.phase
     }
 
+    // The direction that the file header gave.
     pub fn direction(self) -> Direction
         ensures { λ r. ⌜ r ≡ self .dir ⌝ }
     {
@@ -116,6 +118,7 @@ impl Checker {
         self.batch
     }
 
+    // The bank that the file header gave.
     pub fn bank(self) -> u64
         ensures { λ r. ⌜ r ≡ self .bank ⌝ }
     {
@@ -143,17 +146,7 @@ impl Checker {
         if self.is_sound() {
             self.line_no()
         } else {
-            LineNo(0)
+            NO_LINE
         }
     }
-}
-
-// What the house asks of a record beyond its fields: 16 to 19, of a J.
-pub fn check_house(which: Record, rec: &[u8]) -> Answer
-    ensures { λ r. ⌜ r ≡ firstBroken (houseAlone which (now (rec .entry))) ⌝ }
-{
-    if rec.len() != RECORD_BYTES {
-        return Answer::refused(numbers::WRONG_LENGTH, 0);
-    }
-    boletos::check_house(which, rec)
 }

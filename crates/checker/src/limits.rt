@@ -1,5 +1,8 @@
 // Limits of a file, and the states that no run produces.
 use super::Checker;
+use answer::Cents;
+use answer::FILE_CENTS;
+use answer::RecordCount;
 ghost use mathlib.Core.Path.{_≡_};
 ghost use Rattle.checker.specs.Machine.{sound};
 
@@ -14,15 +17,13 @@ pub const HEADER_BATCH: u64 = 0;
 pub const TRAILER_BATCH: u64 = 9999;
 
 // What no run passes: a payment has at most three records, and an amount 15 digits.
-const BATCH_RECORDS: u64 = 30001;
+const BATCH_RECORDS: RecordCount = RecordCount(30001);
 
-const BATCH_CENTS: u64 = 10000000000000000000;
+const BATCH_CENTS: Cents = Cents(10000000000000000000);
 
-const FILE_RECORDS: u64 = 2100142;
+const FILE_RECORDS: RecordCount = RecordCount(2100142);
 
 const FILE_PAYMENTS: u64 = 700000;
-
-const FILE_CENTS: u64 = 1000000000000000000;
 
 impl Checker {
     // With these bounds no sum of a line can wrap.
@@ -30,12 +31,12 @@ impl Checker {
         ensures { λ r. ⌜ r ≡ sound self ⌝ }
     {
         (self.closed.batches <= MOST_BATCHES)
-            & ((self.closed.records.0 <= FILE_RECORDS)
+            & (self.closed.records.at_most(FILE_RECORDS)
                 & ((self.closed.payments <= FILE_PAYMENTS)
-                    & ((self.closed.cents.0 < FILE_CENTS)
+                    & (self.closed.cents.below(FILE_CENTS)
                         & ((self.current.batches <= 1)
-                            & ((self.current.records.0 <= BATCH_RECORDS)
+                            & (self.current.records.at_most(BATCH_RECORDS)
                                 & ((self.current.payments <= MOST_PAYMENTS)
-                                    & (self.current.cents.0 <= BATCH_CENTS)))))))
+                                    & self.current.cents.at_most(BATCH_CENTS)))))))
     }
 }

@@ -7,12 +7,14 @@ use super::limits::MOST_BATCHES;
 use super::limits::MOST_PAYMENTS;
 use super::limits::TRAILER_BATCH;
 use super::order;
-use super::order::Due;
+use super::order::Reading;
 use super::places;
+use super::reads::check_cents;
+use super::reads::check_number;
+use super::reads::check_records;
 use super::totals::payments_of;
 use answer::Answer;
 use answer::numbers;
-use digits::Number;
 use layout::FIELDS;
 use layout::RECORD_BYTES;
 use layout::Record;
@@ -20,11 +22,8 @@ use layout::names;
 ghost use mathlib.Core.Path.{_≡_};
 ghost use mathlib.Core.Bool.{true};
 ghost use mathlib.Core.List.{_∷_, [], _++_};
-ghost use lib.Dec.{eqb};
 ghost use lib.ListN.{length};
-ghost use Rattle.answer.specs.Rules.{rule, firstBroken};
-ghost use Rattle.digits.specs.Numbers.{numberOf};
-ghost use Rattle.calendar.specs.Calendar.{numberFits};
+ghost use Rattle.answer.specs.Rules.{firstBroken};
 ghost use Rattle.layout.specs.Table.{recordBytes, segmentPlace};
 ghost use Rattle.layout.specs.Record.{rulesOf};
 ghost use Rattle.checker.specs.Line.{bank, batchNumber, behind, houseRules, detailRules, rulesAs, lineBytes, lineIs, typeRules, lineRules, rulesOfLine};
@@ -33,23 +32,20 @@ ghost use Rattle.checker.specs.inner.Steps.{segmentFits, isDetail, Bound
 // The index of the first field behind the type, and behind the segment.
 const BEHIND_TYPE: usize = 3;
 
-const BEHIND_SEGMENT: usize = 5;
+// Where the counts stand among a trailer's fields.
+const BATCH_RECORDS: usize = names::BATCH_TRAILER_RECORDS.1;
 
-// The rule that bytes read the number k.
-fn check_reads(number: u8, place: usize, k: u64, part: &[u8]) -> Answer
-    ensures { λ r. ⌜ r ≡ firstBroken (rule number place (numberFits (λ n. eqb n k) (numberOf (now (part .entry)))) ∷ []) ⌝ }
-{
-    match digits::number_of(part) {
-        Number::Is(n) => Answer::test(number, place, n == k),
-        Number::Not => Answer::refused(number, place),
-    }
-}
+const FILE_BATCHES: usize = names::FILE_TRAILER_BATCHES.1;
+
+const FILE_RECORDS: usize = names::FILE_TRAILER_RECORDS.1;
+
+const BEHIND_SEGMENT: usize = 5;
 
 fn check_batch(k: u64, rec: &[u8]) -> Answer
     requires { ⌜ length (now rec) ≡ recordBytes ⌝ }
     ensures { λ r. ⌜ r ≡ firstBroken (batchNumber k (now (rec .entry)) ∷ []) ⌝ }
 {
-    check_reads(
+    check_number(
         numbers::BATCH,
         places::BATCH_FROM,
         k,
@@ -79,7 +75,7 @@ impl Checker {
         requires { ⌜ length (now rec) ≡ recordBytes ⌝ }
         ensures { λ r. ⌜ r ≡ firstBroken (bank self (now (rec .entry)) ∷ []) ⌝ }
     {
-        check_reads(
+        check_number(
             numbers::BANK,
             places::BANK_FROM,
             self.bank,
@@ -134,10 +130,10 @@ impl Checker {
         let bank = self.check_bank(rec);
         let batch = check_batch(self.closed.batches + 1, rec);
         let place = &rec[places::NUMBER_FROM - 1..places::NUMBER_TO];
-        let number = check_reads(
+        let number = check_records(
             numbers::DETAIL,
             places::NUMBER_FROM,
-            self.current.records.0,
+            self.current.records,
             place,
         );
         let fits = segment_fits(which, rec[places::SEGMENT - 1]);
@@ -160,20 +156,20 @@ impl Checker {
         let which = Record::BatchTrailer;
         let bank = self.check_bank(rec);
         let batch = check_batch(self.closed.batches + 1, rec);
-        let behind = names::BATCH_TRAILER_RECORDS + 1;
+        let behind = BATCH_RECORDS + 1;
         let front = layout::check_fields(rec, which, dir, BEHIND_TYPE, behind);
         let place = &rec[places::FIRST_COUNT_FROM - 1..places::FIRST_COUNT_TO];
-        let records = check_reads(
+        let records = check_records(
             numbers::COUNT,
             places::FIRST_COUNT_FROM,
-            self.current.records.0 + 1,
+            self.current.records.and_one(),
             place,
         );
         let fields = layout::check_fields(rec, which, dir, behind, FIELDS);
-        let sum = check_reads(
+        let sum = check_cents(
             numbers::SUM,
             places::SUM_FROM,
-            self.current.cents.0,
+            self.current.cents,
             &rec[places::SUM_FROM - 1..places::SUM_TO],
         );
         let total = Answer::test(
@@ -194,11 +190,11 @@ impl Checker {
         let which = Record::FileTrailer;
         let bank = self.check_bank(rec);
         let batch = check_batch(TRAILER_BATCH, rec);
-        let behind_batches = names::FILE_TRAILER_BATCHES + 1;
-        let behind_records = names::FILE_TRAILER_RECORDS + 1;
+        let behind_batches = FILE_BATCHES + 1;
+        let behind_records = FILE_RECORDS + 1;
         let front = layout::check_fields(rec, which, dir, BEHIND_TYPE, behind_batches);
         let place = &rec[places::FIRST_COUNT_FROM - 1..places::FIRST_COUNT_TO];
-        let batches = check_reads(
+        let batches = check_number(
             numbers::COUNT,
             places::FIRST_COUNT_FROM,
             self.closed.batches,
@@ -206,10 +202,10 @@ impl Checker {
         );
         let middle = layout::check_fields(rec, which, dir, behind_batches, behind_records);
         let place = &rec[places::RECORDS_FROM - 1..places::RECORDS_TO];
-        let records = check_reads(
+        let records = check_records(
             numbers::COUNT,
             places::RECORDS_FROM,
-            self.closed.records.0 + 1,
+            self.closed.records.and_one(),
             place,
         );
         let fields = layout::check_fields(rec, which, dir, behind_records, FIELDS);
@@ -237,14 +233,14 @@ impl Checker {
     }
 
     // What a record is read as.
-    pub(crate) fn line_is(self, rec: &[u8]) -> Due
+    pub(crate) fn line_is(self, rec: &[u8]) -> Reading
         requires { ⌜ length (now rec) ≡ recordBytes ⌝ }
         ensures { λ r. ⌜ r ≡ lineIs self (now (rec .entry)) ⌝ }
     {
         let phase = self.phase;
         let dir = self.dir;
         let batch = self.batch;
-        order::line_due(
+        order::line_reading(
             phase,
             dir,
             batch,
@@ -254,15 +250,15 @@ impl Checker {
     }
 
     // The rules from the type on.
-    fn check_due(self, rec: &[u8]) -> Answer
+    fn check_reading(self, rec: &[u8]) -> Answer
         requires { ⌜ length (now rec) ≡ recordBytes ⌝ }
         requires { ⌜ Bounded self ⌝ }
         ensures { λ r. ⌜ r ≡ firstBroken (typeRules self (now (rec .entry))) ⌝ }
     {
-        let due = self.line_is(rec);
-        match due {
-            Due::Line(which) => self.check_as(which, rec),
-            Due::Nothing => Answer::refused(numbers::TYPE, places::TYPE),
+        let reading = self.line_is(rec);
+        match reading {
+            Reading::Line(which) => self.check_as(which, rec),
+            Reading::Nothing => Answer::refused(numbers::TYPE, places::TYPE),
         }
     }
 
@@ -279,7 +275,7 @@ impl Checker {
         let lf = Answer::test(numbers::LINE_END, places::LF, line[places::LF - 1] == b'\n');
         let ends = clean.and_then(cr.and_then(lf));
         match ends {
-            Answer::Accepted => self.check_due(rec),
+            Answer::Accepted => self.check_reading(rec),
             Answer::Refused(_) => ends,
         }
     }

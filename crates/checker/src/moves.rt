@@ -1,20 +1,19 @@
 // The state behind an accepted line.
 use super::Checker;
 use super::order;
-use super::order::Due;
+use super::order::Reading;
 use super::places;
 use super::totals::Totals;
 use super::totals::counted;
 use layout::Batch;
 use layout::Direction;
-use layout::RECORD_BYTES;
 use layout::Record;
 ghost use mathlib.Core.Path.{_≡_};
 ghost use lib.ListN.{length};
 ghost use Rattle.layout.specs.Table.{recordBytes};
 ghost use Rattle.checker.specs.Order.{after};
 ghost use Rattle.checker.specs.Line.{lineIs};
-ghost use Rattle.checker.specs.Machine.{state, directionOf, inBatch, next, moved, withRecord};
+ghost use Rattle.checker.specs.Machine.{state, directionOf, inBatch, next, moved};
 ghost use Rattle.checker.specs.inner.Steps.{Bounded};
 
 fn direction_of(rec: &[u8]) -> Direction
@@ -139,30 +138,16 @@ impl Checker {
         }
     }
 
-    // The state behind a record, for whoever has tested it, as a writer has. A state that no run
-    // produces, or a record of another length, leaves it.
-    pub fn with_record(self, which: Record, rec: &[u8]) -> Checker
-        ensures { λ r. ⌜ r ≡ withRecord which self (now (rec .entry)) ⌝ }
-    {
-        if !self.is_sound() {
-            return self;
-        }
-        if rec.len() != RECORD_BYTES {
-            return self;
-        }
-        self.after(which, rec)
-    }
-
     // The state behind an accepted line, whatever it is read as.
     pub(crate) fn moved(self, rec: &[u8]) -> Checker
         requires { ⌜ length (now rec) ≡ recordBytes ⌝ }
         requires { ⌜ Bounded self ⌝ }
         ensures { λ r. ⌜ r ≡ moved (lineIs self (now (rec .entry))) self (now (rec .entry)) ⌝ }
     {
-        let due = self.line_is(rec);
-        match due {
-            Due::Line(which) => self.after(which, rec),
-            Due::Nothing => self,
+        let reading = self.line_is(rec);
+        match reading {
+            Reading::Line(which) => self.after(which, rec),
+            Reading::Nothing => self,
         }
     }
 }

@@ -21,12 +21,12 @@ pub struct Totals {
 const AMOUNT_DIGITS: usize = 15;
 
 // An amount, from this place on.
-pub(crate) fn amount(rec: &[u8], place: usize) -> u64
+pub(crate) fn amount(rec: &[u8], place: usize) -> Cents
     requires { ⌜ length (now rec) ≡ recordBytes ⌝ }
     requires { ⌜ (1 ≤ place) × (place + amountDigits ≤ recordBytes) ⌝ }
-    ensures { λ r. ⌜ (r ≡ value (take amountDigits (drop (place - 1) (now (rec .entry))))) × (r < 10 ^ amountDigits) ⌝ }
+    ensures { λ r. ⌜ (r .0 ≡ value (take amountDigits (drop (place - 1) (now (rec .entry))))) × (r .0 < 10 ^ amountDigits) ⌝ }
 {
-    digits::value(&rec[place - 1..place - 1 + AMOUNT_DIGITS])
+    Cents(digits::value(&rec[place - 1..place - 1 + AMOUNT_DIGITS]))
 }
 
 impl Totals {
@@ -53,9 +53,9 @@ impl Totals {
     {
         Totals::of(
             self.batches + more.batches,
-            RecordCount(self.records.0 + more.records.0),
+            self.records.plus(more.records),
             self.payments + more.payments,
-            Cents(self.cents.0 + more.cents.0),
+            self.cents.plus(more.cents),
         )
     }
 }
@@ -101,9 +101,9 @@ fn cents_of(which: Record, rec: &[u8]) -> Cents
     match which {
         Record::FileHeader => Cents(0),
         Record::BatchHeader => Cents(0),
-        Record::SegmentA => Cents(amount(rec, places::CREDIT_AMOUNT)),
+        Record::SegmentA => amount(rec, places::CREDIT_AMOUNT),
         Record::SegmentB => Cents(0),
-        Record::SegmentJ => Cents(amount(rec, places::BOLETO_AMOUNT)),
+        Record::SegmentJ => amount(rec, places::BOLETO_AMOUNT),
         Record::SegmentJ52 => Cents(0),
         Record::SegmentZ => Cents(0),
         Record::BatchTrailer => Cents(0),

@@ -2,12 +2,12 @@
 // `NO number line place`. Every rule stands in the library; here the input is read and the answer
 // printed.
 mod input;
-mod reply;
 
-use answer::Answer;
 use checker::Checker;
 use input::BUFFER_BYTES;
 use input::Input;
+use libc::STDERR_FILENO;
+use reply::Line;
 ghost use mathlib.Core.Path.{_≡_};
 ghost use lib.ListN.{length};
 ghost use Rattle.cnab240.specs.inner.Sizes.{bufferBytes};
@@ -16,6 +16,11 @@ fn buffer() -> [u8; BUFFER_BYTES]
     ensures { λ r. ⌜ length r ≡ bufferBytes ⌝ }
 {
     [0; BUFFER_BYTES]
+}
+
+// A read error never looks like an answer.
+fn unread() {
+    io::write_all(STDERR_FILENO, b"cnab240: standard input can't be read\n");
 }
 
 // Reads to the end of the input, or up to a refusal. A proved loop has to end, and nothing says that
@@ -29,18 +34,18 @@ fn check(buf: &mut [u8])
         match input::fill(buf) {
             Input::Full => {}
             Input::Ended(n) => {
-                reply::outcome(state.finish(&buf[..n]));
+                Line::of_outcome(state.finish(&buf[..n])).print();
                 return;
             }
             Input::Failed => {
-                reply::unread();
+                unread();
                 return;
             }
         }
         let stepped = state.run(buf);
         let answer = stepped.answer;
-        if let Answer::Refused(r) = answer {
-            reply::refused(r);
+        if !answer.is_accepted() {
+            Line::of_answer(answer).print();
             return;
         }
         let next = stepped.state;

@@ -50,6 +50,7 @@ pub fn value(s: &[u8]) -> u64
     spelled(s)
 }
 
+// The number that a string of digits gives; none where it has another byte, or too many digits.
 pub fn number_of(s: &[u8]) -> Number
     ensures { λ r. ⌜ r ≡ numberOf (now (s .entry)) ⌝ }
 {

@@ -2,3 +2,4 @@
 mod Fills
 mod Store
 mod Put
+mod Making

@@ -5,3 +5,6 @@ pub mod RoundTrip
 pub mod TooWide
 pub mod Calls
 pub mod Wide
+pub mod Marks
+pub mod Spoiled
+pub mod Named

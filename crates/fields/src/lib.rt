@@ -1,26 +1,34 @@
-// A record's fields as one value: read from a record, and written as one.
+// A record's fields as one value: read from a record, and written as one. A name of one record used
+// with the fields of another spoils them: no call takes them as they stand.
 mod reading;
 mod table;
 mod text;
 mod writing;
 
 use answer::Answer;
+use answer::Cents;
+use answer::RecordCount;
+use digits::Number;
 use layout::Record;
+use layout::names::Name;
 pub use reading::read_record;
 pub use table::count;
 pub use table::is_number;
 use text::text_with;
-pub use writing::put_record;
+pub use writing::Made;
+pub use writing::check_bytes;
+pub use writing::make_record;
 pub use writing::write_record;
 ghost use mathlib.Core.Path.{_≡_};
-ghost use Rattle.fields.specs.Values.{noFields, blankFields, numberAt, withNumber, withText};
+ghost use Rattle.fields.specs.Values.{orZero, noFields, blankFields, isOf, spoiled, takenAs, setNth, numberAt, withNumber, withText};
 
 // As many numbers as there is room for.
 const MOST_FIELDS: usize = 32;
 
-// The i-th number is that of the record's i-th field, where it is held as a number; layout::names has
-// the fields' names. The text has the other fields' bytes at their places.
+// The fields of a record. The i-th number is that of the record's i-th field, where it is held as a
+// number; layout::names has the fields' names. The text has the other fields' bytes at their places.
 pub struct Fields {
+    pub which: Record,
     pub numbers: [u64; 32],
     pub text: [u8; 240],
 }
@@ -33,39 +41,91 @@ pub struct RecordRead {
 
 impl Fields {
     // No number and no text yet.
-    pub fn none() -> Fields
-        ensures { λ r. ⌜ r ≡ noFields ⌝ }
+    pub fn none(which: Record) -> Fields
+        ensures { λ r. ⌜ r ≡ noFields which ⌝ }
     {
         Fields {
+            which,
             numbers: [0; 32],
             text: [0; 240],
         }
     }
 
     // No number yet, and blanks for text: what a caller does not give stays blank.
-    pub fn blank() -> Fields
-        ensures { λ r. ⌜ r ≡ blankFields ⌝ }
+    pub fn blank(which: Record) -> Fields
+        ensures { λ r. ⌜ r ≡ blankFields which ⌝ }
     {
         Fields {
+            which,
             numbers: [0; 32],
             text: [b' '; 240],
         }
     }
 
-    // A field's number; past the last there is none.
-    pub fn number_at(self, field: usize) -> u64
-        ensures { λ r. ⌜ r ≡ numberAt field self ⌝ }
+    // Fields that every call refuses: no number fits its field, and no byte may stand in a record.
+    fn spoiled(which: Record) -> Fields
+        ensures { λ r. ⌜ r ≡ spoiled which ⌝ }
     {
-        if field < MOST_FIELDS {
-            self.numbers[field]
-        } else {
-            0
+        Fields {
+            which,
+            numbers: [u64::MAX; 32],
+            text: [0; 240],
         }
     }
 
-    // The same fields with another number.
-    pub fn with_number(mut self, field: usize, n: u64) -> Fields
-        ensures { λ r. ⌜ r ≡ withNumber field n self ⌝ }
+    // Whether they are the fields of this record.
+    fn is_of(self, which: Record) -> bool
+        ensures { λ r. ⌜ r ≡ isOf which self ⌝ }
+    {
+        let own = self.which;
+        layout::row_of(own) == layout::row_of(which)
+    }
+
+    // These fields, if they are of this record; if not, fields of it that every call refuses.
+    pub fn taken_as(self, which: Record) -> Fields
+        ensures { λ r. ⌜ r ≡ takenAs which self ⌝ }
+    {
+        if self.is_of(which) {
+            let numbers = self.numbers;
+            let text = self.text;
+            return Fields {
+                which,
+                numbers,
+                text,
+            };
+        }
+        Fields::spoiled(which)
+    }
+
+    // A field's number; there is none of another record, and none past the last field.
+    pub fn number_at(self, name: Name) -> Number
+        ensures { λ r. ⌜ r ≡ numberAt name self ⌝ }
+    {
+        let of = name.0;
+        if !self.is_of(of) {
+            return Number::Not;
+        }
+        let own = self.which;
+        let field = name.1;
+        if count(own) <= field {
+            return Number::Not;
+        }
+        Number::Is(self.numbers[field])
+    }
+
+    // The cents of a field; 0 where it has no number.
+    pub fn cents_at(self, name: Name) -> Cents
+        ensures { λ r. ⌜ r .0 ≡ orZero (numberAt name self) ⌝ }
+    {
+        match self.number_at(name) {
+            Number::Is(n) => Cents(n),
+            Number::Not => Cents(0),
+        }
+    }
+
+    // The same fields with another number at an index.
+    fn set_nth(mut self, field: usize, n: u64) -> Fields
+        ensures { λ r. ⌜ r ≡ setNth field n self ⌝ }
     {
         if field < MOST_FIELDS {
             self.numbers[field] = n;
@@ -73,14 +133,48 @@ impl Fields {
         self
     }
 
-    // The same fields with these bytes at the first places of a field of a record, as many as it has;
-    // past the last field nothing changes.
-    pub fn with_text(self, which: Record, field: usize, bytes: &[u8]) -> Fields
-        ensures { λ r. ⌜ r ≡ withText which field (now (bytes .entry)) self ⌝ }
+    // The same fields with another number; by a name of another record, fields that every call refuses.
+    pub fn with_number(self, name: Name, n: u64) -> Fields
+        ensures { λ r. ⌜ r ≡ withNumber name n self ⌝ }
     {
-        let numbers = self.numbers;
-        let held = self.text;
-        let text = text_with(held, which, field, bytes);
-        Fields { numbers, text }
+        let of = name.0;
+        if self.is_of(of) {
+            return self.set_nth(name.1, n);
+        }
+        let own = self.which;
+        Fields::spoiled(own)
+    }
+
+    // The same of cents, and of a count of records.
+    pub fn with_cents(self, name: Name, cents: Cents) -> Fields
+        ensures { λ r. ⌜ r ≡ withNumber name (cents .0) self ⌝ }
+    {
+        self.with_number(name, cents.0)
+    }
+
+    pub fn with_records(self, name: Name, records: RecordCount) -> Fields
+        ensures { λ r. ⌜ r ≡ withNumber name (records .0) self ⌝ }
+    {
+        self.with_number(name, records.0)
+    }
+
+    // The same fields with these bytes at the first places of a field, as many as it has; past the last
+    // field nothing changes. By a name of another record, fields that every call refuses.
+    pub fn with_text(self, name: Name, bytes: &[u8]) -> Fields
+        ensures { λ r. ⌜ r ≡ withText name (now (bytes .entry)) self ⌝ }
+    {
+        let of = name.0;
+        let own = self.which;
+        if self.is_of(of) {
+            let numbers = self.numbers;
+            let held = self.text;
+            let text = text_with(held, own, name.1, bytes);
+            return Fields {
+                which: own,
+                numbers,
+                text,
+            };
+        }
+        Fields::spoiled(own)
     }
 }

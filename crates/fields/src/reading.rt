@@ -66,13 +66,17 @@ pub fn read_record(rec: &[u8], which: Record, dir: Direction) -> RecordRead
     let answer = layout::check_record(rec, which, dir);
     match answer {
         Answer::Refused(_) => {
-            let fields = Fields::none();
+            let fields = Fields::none(which);
             RecordRead { answer, fields }
         }
         Answer::Accepted => {
             let numbers = numbers_of(rec, which);
             let text = text_of(rec);
-            let fields = Fields { numbers, text };
+            let fields = Fields {
+                which,
+                numbers,
+                text,
+            };
             RecordRead { answer, fields }
         }
     }

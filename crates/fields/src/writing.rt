@@ -6,48 +6,39 @@ use layout::Direction;
 use layout::FIELDS;
 use layout::Fill;
 use layout::RECORD_BYTES;
-use layout::Record;
 ghost use mathlib.Core.Path.{_≡_};
-ghost use mathlib.Core.List.{_++_};
+ghost use mathlib.Core.List.{_∷_, [], _++_};
 ghost use Prim.Native.Nat.{_≤_};
 ghost use lib.Dec.{T as Holds};
 ghost use lib.ListN.{length, drop};
+ghost use Rattle.answer.specs.Rules.{firstBroken};
 ghost use Rattle.answer.specs.Output.{Writes};
-ghost use Rattle.layout.specs.inner.Lent.{kindOf, fixedText, Columns};
+ghost use Rattle.layout.specs.inner.Lent.{kindOf, Columns};
 ghost use Rattle.layout.specs.Table.{recordBytes};
 ghost use Rattle.layout.specs.Kinds.{means};
-ghost use Rattle.layout.specs.Record.{recordRules};
+ghost use Rattle.layout.specs.Record.{recordRules, byteRule};
 ghost use Rattle.layout.specs.inner.Steps.{mayBe};
-ghost use Rattle.fields.specs.Values.{rendered, recordOf, laid};
+ghost use Rattle.fields.specs.Values.{rendered, recordOf, madeOf, Puts};
 
-// One field, over its part of the output: the caller's number or text, or the fixed byte string.
-fn write_field(k: u8, n: u64, text: &[u8], fixed: &[u8], part: &mut [u8])
+// One field, over its part of the output: the caller's number or text, or the fixed content.
+fn write_field(k: u8, n: u64, text: &[u8], part: &mut [u8])
     requires { ⌜ (length (now text) ≡ length (now part)) × Holds (mayBe (kindOf k) (length (now part))) ⌝ }
-    requires { ⌜ now fixed ≡ fixedText ⌝ }
     ensures { λ _. ⌜ now (part .exit) ≡ rendered (means (kindOf k) .held) n (now (text .entry)) ⌝ }
 {
     match layout::fill_of(k) {
         Fill::Number => digits::write_number(n, part),
         Fill::Text => layout::copy(text, part),
-        Fill::Fixed(at) => layout::copy(&fixed[at..at + part.len()], part),
+        Fill::Fixed(content) => content.write(part),
     }
 }
 
 // The record over the output's first bytes: each field's part is lent to the field writer.
-fn render(
-    from: &[u8; FIELDS],
-    to: &[u8; FIELDS],
-    kind: &[u8; FIELDS],
-    fixed: &[u8],
-    v: Fields,
-    which: Record,
-    out: &mut [u8],
-)
+fn render(from: &[u8; FIELDS], to: &[u8; FIELDS], kind: &[u8; FIELDS], v: Fields, out: &mut [u8])
     requires { ⌜ Columns (now from) (now to) (now kind) ⌝ }
-    requires { ⌜ now fixed ≡ fixedText ⌝ }
     requires { ⌜ recordBytes ≤ length (now out) ⌝ }
-    ensures { λ _. ⌜ now (out .exit) ≡ recordOf which v ++ drop recordBytes (now (out .entry)) ⌝ }
+    ensures { λ _. ⌜ now (out .exit) ≡ recordOf (v .which) v ++ drop recordBytes (now (out .entry)) ⌝ }
 {
+    let which = v.which;
     let numbers = v.numbers;
     let text = v.text;
     let s = layout::span_of(which);
@@ -60,44 +51,106 @@ fn render(
         let start = e.from - 1;
         let end = e.to;
         let n = numbers[f - first];
-        write_field(k, n, &text[start..end], fixed, &mut out[start..end]);
+        write_field(k, n, &text[start..end], &mut out[start..end]);
         f += 1;
     }
 }
 
-// Writes a record, if no rule is broken and there is room. The table and the fixed byte strings are
-// bound here, once a record, and lent down.
-pub fn write_record(v: Fields, which: Record, dir: Direction, out: &mut [u8]) -> Answer
-    ensures { λ r. ⌜ Writes (recordRules which dir (recordOf which v)) recordBytes (recordOf which v) (now (out .entry)) r (now (out .exit)) ⌝ }
+// The same, with the table bound here, once a record, and lent down.
+fn lay(v: Fields, out: &mut [u8])
+    requires { ⌜ recordBytes ≤ length (now out) ⌝ }
+    ensures { λ _. ⌜ now (out .exit) ≡ recordOf (v .which) v ++ drop recordBytes (now (out .entry)) ⌝ }
 {
     let from = layout::FROM;
     let to = layout::TO;
     let kind = layout::KIND;
-    let fixed = layout::fixed_text();
-    let mut record = [0u8; RECORD_BYTES];
-    render(&from, &to, &kind, &fixed, v, which, &mut record);
-    let right = layout::check_record(&record, which, dir);
-    let answer = right.and_then(Answer::room(RECORD_BYTES, out));
+    render(&from, &to, &kind, v, out);
+}
+
+// The bytes of the record, right or not.
+fn bytes_of(v: Fields) -> [u8; 240]
+    ensures { λ r. ⌜ r ≡ recordOf (v .which) v ⌝ }
+{
+    let mut bytes = [0u8; RECORD_BYTES];
+    lay(v, &mut bytes);
+    bytes
+}
+
+// A record that fields make: whether it is right, and if it is, its bytes. There is no other way to one
+// than to have it checked.
+pub struct Made {
+    answer: Answer,
+    fields: Fields,
+    bytes: [u8; 240],
+}
+
+// The record that fields make, checked.
+pub fn make_record(v: Fields, dir: Direction) -> Made
+    ensures { λ r. ⌜ r ≡ madeOf (v .which) dir v ⌝ }
+{
+    let which = v.which;
+    let bytes = bytes_of(v);
+    let answer = layout::check_record(&bytes, which, dir);
     match answer {
-        Answer::Accepted => {
-            render(&from, &to, &kind, &fixed, v, which, out);
-            answer
+        Answer::Accepted => Made {
+            answer,
+            fields: v,
+            bytes,
+        },
+        Answer::Refused(_) => {
+            let none = [0u8; RECORD_BYTES];
+            Made {
+                answer,
+                fields: v,
+                bytes: none,
+            }
         }
-        Answer::Refused(_) => answer,
     }
 }
 
-// Lays the record that fields make over the output's first bytes, whether it is right or not; output
-// that is too short is left.
-pub fn put_record(v: Fields, which: Record, out: &mut [u8])
-    ensures { λ _. ⌜ now (out .exit) ≡ laid (recordOf which v) (now (out .entry)) ⌝ }
+// The byte check of the record that fields make.
+pub fn check_bytes(v: Fields) -> Answer
+    ensures { λ r. ⌜ r ≡ firstBroken (byteRule (recordOf (v .which) v) ∷ []) ⌝ }
 {
-    if out.len() < RECORD_BYTES {
-        return;
+    let bytes = bytes_of(v);
+    layout::check_bytes(&bytes)
+}
+
+impl Made {
+    // The check's answer.
+    pub fn answer(self) -> Answer
+        ensures { λ r. ⌜ r ≡ self .answer ⌝ }
+    {
+        self.answer
     }
-    let from = layout::FROM;
-    let to = layout::TO;
-    let kind = layout::KIND;
-    let fixed = layout::fixed_text();
-    render(&from, &to, &kind, &fixed, v, which, out);
+
+    // The record's bytes; zeros where it is refused.
+    pub fn bytes(self) -> [u8; 240]
+        ensures { λ r. ⌜ r ≡ self .bytes ⌝ }
+    {
+        self.bytes
+    }
+
+    // Puts the record over the output's first bytes, if it is right and there is room.
+    pub fn put(self, out: &mut [u8]) -> Answer
+        ensures { λ r. ⌜ Puts self (now (out .entry)) r (now (out .exit)) ⌝ }
+    {
+        let right = self.answer;
+        let answer = right.and_then(Answer::room(RECORD_BYTES, out));
+        match answer {
+            Answer::Accepted => {
+                let v = self.fields;
+                lay(v, out);
+                answer
+            }
+            Answer::Refused(_) => answer,
+        }
+    }
+}
+
+// Writes a record, if no rule is broken and there is room.
+pub fn write_record(v: Fields, dir: Direction, out: &mut [u8]) -> Answer
+    ensures { λ r. ⌜ Writes (recordRules (v .which) dir (recordOf (v .which) v)) recordBytes (recordOf (v .which) v) (now (out .entry)) r (now (out .exit)) ⌝ }
+{
+    make_record(v, dir).put(out)
 }

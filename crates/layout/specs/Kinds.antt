@@ -79,7 +79,7 @@ abbrev pub blankIn : Direction → Part → List Rule
 blankIn Remittance p = wrong 12 (isFixed (run blank)) p
 blankIn Return p = []
 
--- whichever half is wrong, the pair is refused at the service
+-- service and form are one pair with one rule, which the service carries: whichever half is wrong, or no number, is refused there
 abbrev pub pairRule : Part → List Rule
 pairRule p =
     rule 14 (serviceField .from) (known (batchOf (p .direction) (part serviceField (p .whole)) (part formField (p .whole)))) ∷ []
@@ -102,7 +102,7 @@ means Zeros = fixedAs 12 (run (digitByte 0))
 means (Exact bs) = fixedAs 12 (text bs)
 means (OneOf domain) = row asNumber (wrong 14 (oneOf domain))
 means Service = row asNumber pairRule
-means Form = row asNumber pairRule
+means Form = row asNumber (λ p. [])
 means Barcode = row asBytes barcodeRules
 means (RecordType b) = fixedAs 6 (text (b ∷ []))
 means (Segment b) = fixedAs 11 (text (b ∷ []))

@@ -1,5 +1,6 @@
 pub mod Pairs
 pub mod Table
+pub mod Names
 pub mod Kinds
 pub mod Record
 pub mod laws

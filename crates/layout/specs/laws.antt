@@ -2,6 +2,7 @@
 pub mod Bytes
 pub mod Tiling
 pub mod Sound
-pub mod Texts
+pub mod Contents
 pub mod Columns
 pub mod Masks
+pub mod Indexes

@@ -1,18 +1,20 @@
-ghost use Rattle.layout.specs.inner.Lent.{whole?, firstMark, lastMark, markAt, fillOf};
 // The kinds of field, by number, and what a field of each kind is filled with.
+use super::fixed::BLANK;
+use super::fixed::Content;
+use super::fixed::ZERO;
 ghost use mathlib.Core.Path.{_≡_};
-ghost use Prim.Native.Nat.{_≤_};
+ghost use Rattle.layout.specs.inner.Lent.{whole?, fillOf};
 
-// The caller's number, the caller's text, or the byte string that begins here in the fixed text.
+// The caller's number, the caller's text, or fixed content.
 pub enum Fill {
     Number,
     Text,
-    Fixed(usize),
+    Fixed(Content),
 }
 
 pub(crate) const N: u8 = 0;
 
-// From here to T: a rule for the field as a whole. All others have a rule for each byte alone.
+// From here to T: a rule for the field as a whole. All others have a rule for each byte alone, or none.
 pub(crate) const D: u8 = 1;
 
 pub(crate) const TIME: u8 = 2;
@@ -21,11 +23,11 @@ pub(crate) const ZERO_NINE: u8 = 3;
 
 pub(crate) const SERVICE: u8 = 4;
 
-pub(crate) const FORM: u8 = 5;
+pub(crate) const BARCODE: u8 = 5;
 
-pub(crate) const BARCODE: u8 = 6;
+pub(crate) const T: u8 = 6;
 
-pub(crate) const T: u8 = 7;
+pub(crate) const FORM: u8 = 7;
 
 pub(crate) const ZERO_ONE_TWO: u8 = 8;
 
@@ -49,19 +51,6 @@ pub(crate) const EXACT_52: u8 = 16;
 // Any other number.
 pub(crate) const F: u8 = 17;
 
-// Where the byte strings begin in the fixed text.
-pub(crate) const BLANKS_AT: usize = 0;
-
-pub(crate) const ZEROS_AT: usize = 205;
-
-pub(crate) const C_AT: usize = 220;
-
-pub(crate) const CODE_09_AT: usize = 221;
-
-pub(crate) const CODE_52_AT: usize = 223;
-
-const MARKS_AT: usize = 225;
-
 // Whether the kind's rule is one for the field as a whole.
 pub(crate) fn is_whole(k: u8) -> bool
     ensures { λ r. ⌜ r ≡ whole? k ⌝ }
@@ -69,19 +58,12 @@ pub(crate) fn is_whole(k: u8) -> bool
     (D <= k) & (k <= T)
 }
 
-// Where the byte of a type or a segment stands in the fixed text.
-pub(crate) fn mark_at(k: u8) -> usize
-    requires { ⌜ (firstMark ≤ k) × (k ≤ lastMark) ⌝ }
-    ensures { λ r. ⌜ r ≡ markAt k ⌝ }
-{
-    MARKS_AT + (k - b'0') as usize
-}
-
+// What a field of this kind is filled with.
 pub fn fill_of(k: u8) -> Fill
     ensures { λ r. ⌜ r ≡ fillOf k ⌝ }
 {
     if (b'0' <= k) & (k <= b'Z') {
-        return Fill::Fixed(mark_at(k));
+        return Fill::Fixed(Content::Run(k));
     }
     match k {
         N => Fill::Number,
@@ -96,11 +78,11 @@ pub fn fill_of(k: u8) -> Fill
         BARCODE => Fill::Text,
         T => Fill::Text,
         O => Fill::Text,
-        K => Fill::Fixed(BLANKS_AT),
-        ZEROS => Fill::Fixed(ZEROS_AT),
-        EXACT_C => Fill::Fixed(C_AT),
-        EXACT_09 => Fill::Fixed(CODE_09_AT),
-        EXACT_52 => Fill::Fixed(CODE_52_AT),
+        K => Fill::Fixed(Content::Run(BLANK)),
+        ZEROS => Fill::Fixed(Content::Run(ZERO)),
+        EXACT_C => Fill::Fixed(Content::LetterC),
+        EXACT_09 => Fill::Fixed(Content::Code09),
+        EXACT_52 => Fill::Fixed(Content::Code52),
         _ => Fill::Text,
     }
 }

@@ -1,5 +1,6 @@
 // The layout table, and the check of one record against it.
 mod bytes;
+mod fixed;
 mod kinds;
 mod looks;
 mod masks;
@@ -12,19 +13,18 @@ use answer::Answer;
 use answer::numbers;
 pub use bytes::check_bytes;
 pub use bytes::copy;
+pub use fixed::Content;
 pub use kinds::Fill;
 pub use kinds::fill_of;
 pub use pairs::Batch;
 pub use pairs::batch_of;
 pub use table::Entry;
 pub use table::FIELDS;
-pub use table::FIXED_BYTES;
 pub use table::FROM;
 pub use table::KIND;
 pub use table::Span;
 pub use table::TO;
 pub use table::entry_at;
-pub use table::fixed_text;
 pub use table::row_of;
 pub use table::span_of;
 ghost use mathlib.Core.Path.{_≡_};
@@ -50,8 +50,8 @@ pub enum Record {
 
 pub const RECORD_BYTES: usize = 240;
 
-// One record alone: its length, its bytes, its type and segment, then all its fields. The table and
-// the fixed byte strings are bound here, once a record, and lent down.
+// One record alone: its length, its bytes, its type and segment, then all its fields. The table is
+// bound here, once a record, and lent down.
 pub fn check_record(rec: &[u8], which: Record, dir: Direction) -> Answer
     ensures { λ r. ⌜ r ≡ firstBroken (recordRules which dir (now (rec .entry))) ⌝ }
 {
@@ -61,10 +61,9 @@ pub fn check_record(rec: &[u8], which: Record, dir: Direction) -> Answer
     let from = FROM;
     let to = TO;
     let kind = KIND;
-    let fixed = fixed_text();
     let clean = check_bytes(rec);
-    let marks = walk::check_marks(&from, &to, &kind, &fixed, rec, which, dir);
-    let fields = walk::check_fields(&from, &to, &kind, &fixed, rec, which, dir, 0, FIELDS);
+    let marks = walk::check_marks(&from, &to, &kind, rec, which, dir);
+    let fields = walk::check_fields(&from, &to, &kind, rec, which, dir, 0, FIELDS);
     clean.and_then(marks.and_then(fields))
 }
 
@@ -79,6 +78,5 @@ pub fn check_fields(rec: &[u8], which: Record, dir: Direction, first: usize, pas
     let from = FROM;
     let to = TO;
     let kind = KIND;
-    let fixed = fixed_text();
-    walk::check_fields(&from, &to, &kind, &fixed, rec, which, dir, first, past)
+    walk::check_fields(&from, &to, &kind, rec, which, dir, first, past)
 }

@@ -1,7 +1,9 @@
 // How the walk looks at a field: the rule of each kind.
 use super::Direction;
+use super::fixed::BLANK;
+use super::fixed::Content;
+use super::fixed::ZERO;
 use super::kinds;
-use super::kinds::mark_at;
 use super::pairs;
 use super::pairs::Batch;
 use answer::Answer;
@@ -12,12 +14,12 @@ ghost use Prim.Native.Nat.{_≤_};
 ghost use lib.Dec.{T as Holds};
 ghost use lib.ListN.{length};
 ghost use Rattle.answer.specs.Rules.{firstBroken};
-ghost use Rattle.layout.specs.inner.Lent.{firstMark, lastMark, kindOf};
+ghost use Rattle.layout.specs.inner.Lent.{kindOf};
 ghost use Rattle.layout.specs.Table.{recordBytes};
 ghost use Rattle.layout.specs.Kinds.{aPart, oneOf, pairRule, barcodeRules};
 ghost use Rattle.layout.specs.inner.Steps.{mayBe, Looked, markLook, textLook};
 ghost use Rattle.layout.specs.declared.Direction.the-variants.{Remittance};
-ghost use Rattle.layout.specs.declared.looks.Look.the-variants.{Text};
+ghost use Rattle.layout.specs.declared.looks.Look.the-variants.{Fixed};
 
 // Places of the service and the form.
 const SERVICE_FROM: usize = 10;
@@ -26,11 +28,10 @@ const SERVICE_TO: usize = 11;
 
 const FORM_TO: usize = 13;
 
-// For digits, for the byte string that begins here in the fixed text, or not at all, because the
-// field has been tested whole.
+// For digits, for fixed content, or not at all, because the field has been tested whole.
 pub(crate) enum Look {
     Digits,
-    Text { number: u8, at: usize },
+    Fixed { number: u8, content: Content },
     Tested(Answer),
 }
 
@@ -79,21 +80,20 @@ fn pair(rec: &[u8], dir: Direction) -> Answer
     }
 }
 
-// How to look at a type or a segment.
+// How to look at a type or a segment, each of which is its byte.
 fn mark(k: u8) -> Look
-    requires { ⌜ (firstMark ≤ k) × (k ≤ lastMark) ⌝ }
     ensures { λ r. ⌜ r ≡ markLook k ⌝ }
 {
-    let at = mark_at(k);
+    let content = Content::Run(k);
     if k < b'A' {
-        Look::Text {
+        Look::Fixed {
             number: numbers::TYPE,
-            at,
+            content,
         }
     } else {
-        Look::Text {
+        Look::Fixed {
             number: numbers::SEGMENT,
-            at,
+            content,
         }
     }
 }
@@ -105,21 +105,21 @@ fn text(part: &[u8]) -> Look
     if part.len() == 0 {
         return Look::Tested(Answer::Accepted);
     }
-    if part[0] != b' ' {
+    if part[0] != BLANK {
         return Look::Tested(Answer::Accepted);
     }
-    Look::Text {
+    Look::Fixed {
         number: numbers::TEXT,
-        at: kinds::BLANKS_AT,
+        content: Content::Run(BLANK),
     }
 }
 
-fn fixed_at(at: usize) -> Look
-    ensures { λ r. ⌜ r ≡ Text 12 at ⌝ }
+fn fixed(content: Content) -> Look
+    ensures { λ r. ⌜ r ≡ Fixed 12 content ⌝ }
 {
-    Look::Text {
+    Look::Fixed {
         number: numbers::FIXED,
-        at,
+        content,
     }
 }
 
@@ -138,15 +138,15 @@ pub(crate) fn look_at(k: u8, dir: Direction, part: &[u8], rec: &[u8], place: usi
         kinds::T => text(part),
         kinds::D => Look::Tested(Answer::test(numbers::DATE, place, calendar::date_fits(part))),
         kinds::TIME => Look::Tested(Answer::test(numbers::DATE, place, calendar::time_fits(part))),
-        kinds::K => fixed_at(kinds::BLANKS_AT),
+        kinds::K => fixed(Content::Run(BLANK)),
         kinds::O => match dir {
-            Direction::Remittance => fixed_at(kinds::BLANKS_AT),
+            Direction::Remittance => fixed(Content::Run(BLANK)),
             Direction::Return => Look::Tested(Answer::Accepted),
         },
-        kinds::ZEROS => fixed_at(kinds::ZEROS_AT),
-        kinds::EXACT_C => fixed_at(kinds::C_AT),
-        kinds::EXACT_09 => fixed_at(kinds::CODE_09_AT),
-        kinds::EXACT_52 => fixed_at(kinds::CODE_52_AT),
+        kinds::ZEROS => fixed(Content::Run(ZERO)),
+        kinds::EXACT_C => fixed(Content::LetterC),
+        kinds::EXACT_09 => fixed(Content::Code09),
+        kinds::EXACT_52 => fixed(Content::Code52),
         kinds::ZERO_ONE_TWO => Look::Tested(Answer::test(
             numbers::DOMAIN,
             place,
@@ -155,7 +155,8 @@ pub(crate) fn look_at(k: u8, dir: Direction, part: &[u8], rec: &[u8], place: usi
         kinds::ZERO_NINE => Look::Tested(Answer::test(numbers::DOMAIN, place, one_of(b"09", part))),
         kinds::ONE_TWO => Look::Tested(Answer::test(numbers::DOMAIN, place, one_of(b"12", part))),
         kinds::SERVICE => Look::Tested(pair(rec, dir)),
-        kinds::FORM => Look::Tested(pair(rec, dir)),
+        // The pair has been asked at the service.
+        kinds::FORM => Look::Tested(Answer::Accepted),
         kinds::BARCODE => Look::Tested(barcode(part, place)),
         _ => Look::Tested(Answer::Accepted),
     }

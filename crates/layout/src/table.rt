@@ -1,9 +1,6 @@
-ghost use Rattle.layout.specs.Table.{code};
-ghost use Rattle.layout.specs.inner.Lent.{spanOf, inColumn, entryIn, fixedText};
-// The table as numbers: first place, last place and kind of each field, one record after the other,
-// and the fixed byte strings. Whoever walks fields binds them once and lends them down.
+// The table as numbers: first place, last place and kind of each field, one record after the other.
+// Whoever walks fields binds it once and lends it down.
 use super::Record;
-use super::bytes::copy;
 use super::kinds::BARCODE;
 use super::kinds::D;
 use super::kinds::EXACT_09;
@@ -22,13 +19,12 @@ use super::kinds::TIME;
 use super::kinds::ZERO_NINE;
 use super::kinds::ZERO_ONE_TWO;
 use super::kinds::ZEROS;
-use super::kinds::ZEROS_AT;
 ghost use mathlib.Core.Path.{_≡_};
 ghost use Prim.Native.Nat.{_<_};
+ghost use Rattle.layout.specs.Table.{code};
+ghost use Rattle.layout.specs.inner.Lent.{spanOf, inColumn, entryIn};
 
 pub const FIELDS: usize = 143;
-
-pub const FIXED_BYTES: usize = 268;
 
 // Where each record's fields begin; the last entry is their number.
 const START: [usize; 10] = [0, 22, 46, 71, 80, 101, 119, 125, 135, 143];
@@ -498,9 +494,6 @@ pub const KIND: [u8; FIELDS] = [
     K,
 ];
 
-// The byte strings behind the blanks: zeros, C, 09, 52, and each byte from 0 to Z.
-const TEXTS: [u8; 63] = *b"000000000000000C09520123456789:;<=>?@ABCDEFGHIJKLMNOPQRSTUVWXYZ";
-
 // The fields of a record: the first, and the one past the last.
 pub struct Span {
     pub first: usize,
@@ -563,14 +556,4 @@ pub fn entry_at(from: &[u8; FIELDS], to: &[u8; FIELDS], kind: &[u8; FIELDS], f: 
         to: wide(in_column(to, f)),
         kind: in_column(kind, f),
     }
-}
-
-// All fixed byte strings, one behind the other.
-pub fn fixed_text() -> [u8; FIXED_BYTES]
-    ensures { λ r. ⌜ r ≡ fixedText ⌝ }
-{
-    let mut text = [b' '; FIXED_BYTES];
-    let texts = TEXTS;
-    copy(&texts, &mut text[ZEROS_AT..]);
-    text
 }

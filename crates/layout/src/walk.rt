@@ -16,7 +16,7 @@ ghost use Prim.Native.Nat.{_≤_, _<_, min};
 ghost use lib.ListN.{length};
 ghost use lib.Seq.{slice};
 ghost use Rattle.answer.specs.Rules.{firstBroken};
-ghost use Rattle.layout.specs.inner.Lent.{fieldCount, fixedText, Columns};
+ghost use Rattle.layout.specs.inner.Lent.{fieldCount, Columns};
 ghost use Rattle.layout.specs.Table.{recordBytes, marks, fieldsOf, all};
 ghost use Rattle.layout.specs.Record.{rulesOf};
 ghost use Rattle.layout.specs.inner.Masks.{Known};
@@ -47,7 +47,6 @@ fn walk(
     from: &[u8; FIELDS],
     to: &[u8; FIELDS],
     kind: &[u8; FIELDS],
-    fixed: &[u8],
     rec: &[u8],
     first: usize,
     past: usize,
@@ -55,7 +54,6 @@ fn walk(
     masked: bool,
 ) -> Answer
     requires { ⌜ Columns (now from) (now to) (now kind) ⌝ }
-    requires { ⌜ now fixed ≡ fixedText ⌝ }
     requires { ⌜ (length (now rec) ≡ recordBytes) × (first ≤ past) × (past ≤ fieldCount) ⌝ }
     requires { ⌜ Known masked first past dir (now rec) ⌝ }
     ensures { λ r. ⌜ r ≡ firstBroken (rulesOf (slice first past all) dir (now (rec .entry))) ⌝ }
@@ -87,12 +85,10 @@ fn walk(
                     i += 1;
                 }
             }
-            Look::Text { number, at } => {
-                let text_end = at + part.len();
-                let text = &fixed[at..text_end];
+            Look::Fixed { number, content } => {
                 let mut i = 0;
                 while i < part.len() {
-                    if part[i] != text[i] {
+                    if part[i] != content.byte_at(i) {
                         break 'fields Answer::refused(number, place);
                     }
                     i += 1;
@@ -130,34 +126,22 @@ pub(crate) fn check_marks(
     from: &[u8; FIELDS],
     to: &[u8; FIELDS],
     kind: &[u8; FIELDS],
-    fixed: &[u8],
     rec: &[u8],
     which: Record,
     dir: Direction,
 ) -> Answer
     requires { ⌜ Columns (now from) (now to) (now kind) ⌝ }
-    requires { ⌜ now fixed ≡ fixedText ⌝ }
     requires { ⌜ length (now rec) ≡ recordBytes ⌝ }
     ensures { λ r. ⌜ r ≡ firstBroken (rulesOf (marks which) dir (now (rec .entry))) ⌝ }
 {
     let s = table::span_of(which);
     let type_at = s.first + TYPE_FIELD;
-    let type_fits = walk(from, to, kind, fixed, rec, type_at, type_at + 1, dir, false);
+    let type_fits = walk(from, to, kind, rec, type_at, type_at + 1, dir, false);
     if !has_segment(which) {
         return type_fits;
     }
     let segment_at = s.first + SEGMENT_FIELD;
-    type_fits.and_then(walk(
-        from,
-        to,
-        kind,
-        fixed,
-        rec,
-        segment_at,
-        segment_at + 1,
-        dir,
-        false,
-    ))
+    type_fits.and_then(walk(from, to, kind, rec, segment_at, segment_at + 1, dir, false))
 }
 
 fn least(a: usize, b: usize) -> usize
@@ -171,7 +155,6 @@ pub(crate) fn check_fields(
     from: &[u8; FIELDS],
     to: &[u8; FIELDS],
     kind: &[u8; FIELDS],
-    fixed: &[u8],
     rec: &[u8],
     which: Record,
     dir: Direction,
@@ -179,7 +162,6 @@ pub(crate) fn check_fields(
     past: usize,
 ) -> Answer
     requires { ⌜ Columns (now from) (now to) (now kind) ⌝ }
-    requires { ⌜ now fixed ≡ fixedText ⌝ }
     requires { ⌜ length (now rec) ≡ recordBytes ⌝ }
     ensures { λ r. ⌜ r ≡ firstBroken (rulesOf (slice first past (fieldsOf which)) dir (now (rec .entry))) ⌝ }
 {
@@ -193,7 +175,6 @@ pub(crate) fn check_fields(
         from,
         to,
         kind,
-        fixed,
         rec,
         s.first + first,
         s.first + end,

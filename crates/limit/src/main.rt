@@ -3,11 +3,12 @@
 // up to the 10,000th payment, and is refused another (number 20). It prints a line for each refusal,
 // and then the reader's.
 mod records;
-mod reply;
 
-use answer::Answer;
+use answer::Cents;
 use checker::LINE_BYTES;
 use fields::Fields;
+use layout::Record;
+use reply::Line;
 use writer::Payment;
 use writer::Writer;
 use writer::Written;
@@ -19,35 +20,35 @@ const LINES: usize = 20004;
 const FILE_BYTES: usize = LINES * LINE_BYTES;
 
 // The most cents that a payment's 15 digits hold, and how often they are paid: 10^18 - 1,000 in all.
-const MOST_CENTS: u64 = 999999999999999;
+const MOST_CENTS: Cents = Cents(999999999999999);
 
 const LARGE_PAYMENTS: u64 = 1000;
 
 // The next payment: what no file has room for, and one cent less.
-const TOO_MANY_CENTS: u64 = 1000;
+const TOO_MANY_CENTS: Cents = Cents(1000);
 
-const LAST_CENTS: u64 = 999;
+const LAST_CENTS: Cents = Cents(999);
 
 // What is left to pay, with no cents, up to the 10,000th.
 const EMPTY_PAYMENTS: u64 = 8999;
 
-const NO_CENTS: u64 = 0;
+const NO_CENTS: Cents = Cents(0);
 
 // The state behind a call. A refusal is printed; it left state and output as they were.
 fn state_after(written: Written) -> Writer {
     let answer = written.answer;
-    if let Answer::Refused(r) = answer {
-        reply::refused(r);
+    if !answer.is_accepted() {
+        Line::of_answer(answer).print();
     }
     written.state
 }
 
-fn pay(state: Writer, cents: u64, out: &mut [u8]) -> Writer {
+fn pay(state: Writer, cents: Cents, out: &mut [u8]) -> Writer {
     let payment = Payment::of_two(records::credit(cents), records::payee());
     state_after(state.payment(payment, out))
 }
 
-fn pay_often(state: Writer, times: u64, cents: u64, out: &mut [u8]) -> Writer {
+fn pay_often(state: Writer, times: u64, cents: Cents, out: &mut [u8]) -> Writer {
     let mut state = state;
     let mut paid = 0;
     while paid < times {
@@ -75,8 +76,8 @@ fn pay_to_the_last(state: Writer, out: &mut [u8]) -> Writer {
 }
 
 fn close(state: Writer, out: &mut [u8]) {
-    let state = state_after(state.close_batch(Fields::blank(), out));
-    state_after(state.close_file(Fields::blank(), out));
+    let state = state_after(state.close_batch(Fields::blank(Record::BatchTrailer), out));
+    state_after(state.close_file(Fields::blank(Record::FileTrailer), out));
 }
 
 fn write_file(out: &mut [u8]) {
@@ -88,7 +89,7 @@ fn write_file(out: &mut [u8]) {
 
 fn write_and_read(file: &mut [u8]) {
     write_file(file);
-    reply::outcome(checker::check_file(file));
+    Line::of_outcome(checker::check_file(file)).print();
 }
 
 fn main() {

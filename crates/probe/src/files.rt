@@ -1,7 +1,7 @@
 // A whole file, and lines one call at a time.
 use super::header;
 use super::header::DIGITS;
-use super::reply;
+use super::print;
 use checker::Checker;
 use digits::Number;
 ghost use Prim.Native.Nat.{_≤_, _<_};
@@ -15,7 +15,7 @@ struct Call {
 }
 
 pub(crate) fn check(payload: &[u8]) {
-    reply::outcome(checker::check_file(payload));
+    print::outcome(checker::check_file(payload));
 }
 
 fn no_call(payload: &[u8]) -> Call
@@ -72,12 +72,12 @@ fn make_calls(payload: &[u8]) {
         let end = call.end;
         let stepped = state.step(&payload[start..end]);
         let answer = stepped.answer;
-        reply::line(answer);
+        print::line(answer);
         let next = stepped.state;
         state = next;
         at = end;
     }
-    reply::outcome(state.finish(b""));
+    print::outcome(state.finish(b""));
 }
 
 // A payload that is no list of calls makes none.
@@ -85,6 +85,6 @@ pub(crate) fn step_lines(payload: &[u8]) {
     if are_calls(payload) {
         make_calls(payload);
     } else {
-        reply::malformed();
+        print::malformed();
     }
 }

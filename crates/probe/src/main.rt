@@ -18,8 +18,8 @@
 // line for each call, of an accepted E as of F, and then the output memory.
 mod files;
 mod header;
+mod print;
 mod records;
-mod reply;
 mod scripts;
 
 use header::Op;
@@ -51,14 +51,14 @@ fn fill(out: &mut [u8], byte: u8) {
 fn call(op: Op, payload: &[u8], out: &mut [u8]) {
     fill(out, UNTOUCHED);
     match op {
-        Op::BarcodeToLine => reply::memory(boleto::barcode_to_line(payload, out), out),
-        Op::LineToBarcode => reply::memory(boleto::line_to_barcode(payload, out), out),
+        Op::BarcodeToLine => print::memory(boleto::barcode_to_line(payload, out), out),
+        Op::LineToBarcode => print::memory(boleto::line_to_barcode(payload, out), out),
         Op::ReadRecord(which, dir) => records::read(payload, which, dir),
         Op::WriteRecord(which, dir) => records::write(payload, which, dir, out),
         Op::CheckFile => files::check(payload),
         Op::StepLines => files::step_lines(payload),
         Op::Script => scripts::run(payload, out),
-        Op::Malformed => reply::malformed(),
+        Op::Malformed => print::malformed(),
     }
 }
 

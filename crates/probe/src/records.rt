@@ -1,11 +1,11 @@
 // Reading and writing one record.
-use super::reply;
-use answer::Answer;
+use super::print;
 use digits::Number;
 use fields::Fields;
 use layout::Direction;
 use layout::RECORD_BYTES;
 use layout::Record;
+use layout::names::Name;
 ghost use mathlib.Core.Path.{_≡_};
 ghost use Prim.Native.Nat.{_≤_};
 ghost use lib.ListN.{length};
@@ -61,21 +61,21 @@ fn text_of(payload: &[u8]) -> [u8; RECORD_BYTES] {
     text
 }
 
-fn none() -> Given {
-    let fields = Fields::none();
+fn none(which: Record) -> Given {
+    let fields = Fields::none(which);
     Given {
         right: false,
         fields,
     }
 }
 
-// The fields that bytes give: so many numbers, and the text.
-pub(crate) fn fields_of(given: &[u8], many: usize) -> Given
+// The fields of a record that bytes give: so many numbers, and the text.
+pub(crate) fn fields_of(given: &[u8], which: Record, many: usize) -> Given
     requires { ⌜ many ≤ mostNumbers ⌝ }
 {
     let numbers_end = many * NUMBER_DIGITS;
     if given.len() != numbers_end + RECORD_BYTES {
-        return none();
+        return none(which);
     }
     let mut numbers = [0u64; MOST_NUMBERS];
     let mut i = 0;
@@ -83,7 +83,7 @@ pub(crate) fn fields_of(given: &[u8], many: usize) -> Given
         let start = i * NUMBER_DIGITS;
         let end = start + NUMBER_DIGITS;
         let Number::Is(n) = number_of(&given[start..end]) else {
-            return none();
+            return none(which);
         };
         numbers[i] = n;
         i += 1;
@@ -91,18 +91,29 @@ pub(crate) fn fields_of(given: &[u8], many: usize) -> Given
     let text = text_of(&given[numbers_end..]);
     Given {
         right: true,
-        fields: Fields { numbers, text },
+        fields: Fields {
+            which,
+            numbers,
+            text,
+        },
     }
 }
 
-fn print_fields(fields: Fields, which: Record) {
+fn print_number(n: Number) {
+    if let Number::Is(n) = n {
+        reply::spaced(n);
+    }
+}
+
+fn print_fields(fields: Fields) {
+    let which = fields.which;
     let many = count(which);
     let mut i = 0;
     while i < many {
         if fields::is_number(which, i) {
-            reply::spaced(fields.number_at(i));
+            print_number(fields.number_at(Name(which, i)));
         } else {
-            reply::bytes(b" -");
+            print::bytes(b" -");
         }
         i += 1;
     }
@@ -111,26 +122,25 @@ fn print_fields(fields: Fields, which: Record) {
 pub(crate) fn read(payload: &[u8], which: Record, dir: Direction) {
     let record = fields::read_record(payload, which, dir);
     let answer = record.answer;
-    match answer {
-        Answer::Refused(_) => reply::line(answer),
-        Answer::Accepted => {
-            let fields = record.fields;
-            reply::bytes(b"OK");
-            print_fields(fields, which);
-            reply::bytes(b"\n");
-            let text = fields.text;
-            reply::bytes(&text);
-            reply::bytes(b"\n");
-        }
+    if !answer.is_accepted() {
+        print::line(answer);
+        return;
     }
+    let fields = record.fields;
+    print::bytes(b"OK");
+    print_fields(fields);
+    print::bytes(b"\n");
+    let text = fields.text;
+    print::bytes(&text);
+    print::bytes(b"\n");
 }
 
 pub(crate) fn write(payload: &[u8], which: Record, dir: Direction, out: &mut [u8]) {
-    let asked = fields_of(payload, count(which));
+    let asked = fields_of(payload, which, count(which));
     if asked.right {
         let fields = asked.fields;
-        reply::memory(fields::write_record(fields, which, dir, out), out);
+        print::memory(fields::write_record(fields, dir, out), out);
     } else {
-        reply::malformed();
+        print::malformed();
     }
 }

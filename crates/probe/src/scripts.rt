@@ -3,17 +3,17 @@
 use super::fill;
 use super::header;
 use super::header::Asked;
+use super::print;
 use super::records;
+use super::records::Given;
 use super::records::MOST_NUMBERS;
 use super::records::NUMBER_DIGITS;
-use super::reply;
 use answer::Answer;
 use checker::Outcome;
 use digits::Number;
 use fields::Fields;
 use layout::RECORD_BYTES;
 use layout::Record;
-use writer::Detail;
 use writer::Payment;
 use writer::Writer;
 use writer::Written;
@@ -54,11 +54,6 @@ enum Step {
 struct Found {
     step: Step,
     end: usize,
-}
-
-struct Given {
-    right: bool,
-    record: Detail,
 }
 
 struct Reached {
@@ -118,7 +113,7 @@ fn count_of(call: Call) -> usize
     match call {
         Call::OpenFile => 1,
         Call::OpenBatch => 1,
-        Call::Pay(noted) => if noted { 3 } else { 2 },
+        Call::Pay(triple) => if triple { 3 } else { 2 },
         Call::CloseBatch => 1,
         Call::CloseFile => 1,
     }
@@ -165,13 +160,10 @@ fn step_at(payload: &[u8], at: usize) -> Found
 }
 
 fn no_record() -> Given {
-    let fields = Fields::none();
+    let fields = Fields::none(Record::SegmentZ);
     Given {
         right: false,
-        record: Detail {
-            which: Record::SegmentZ,
-            fields,
-        },
+        fields,
     }
 }
 
@@ -187,12 +179,7 @@ fn record_at(call: &[u8], index: usize) -> Given
     let Asked::Of(which) = header::record_of(call[start]) else {
         return no_record();
     };
-    let given = records::fields_of(&call[start + 1..end], MOST_NUMBERS);
-    let fields = given.fields;
-    Given {
-        right: given.right,
-        record: Detail { which, fields },
-    }
+    records::fields_of(&call[start + 1..end], which, MOST_NUMBERS)
 }
 
 fn are_records(call: &[u8], count: usize) -> bool
@@ -231,23 +218,29 @@ fn is_script(payload: &[u8]) -> bool {
     true
 }
 
-fn detail(call: &[u8], index: usize) -> Detail
+fn detail(call: &[u8], index: usize) -> Fields
     requires { ⌜ index < mostRecords ⌝ }
 {
     let given = record_at(call, index);
-    given.record
+    given.fields
 }
 
 // Of a call with one record: whatever kind it is said to be, the call decides.
-fn only_fields(call: &[u8]) -> Fields {
+fn only_fields(call: &[u8], which: Record) -> Fields {
     let only = detail(call, 0);
-    only.fields
+    let numbers = only.numbers;
+    let text = only.text;
+    Fields {
+        which,
+        numbers,
+        text,
+    }
 }
 
-fn payment_of(call: &[u8], noted: bool) -> Payment {
+fn payment_of(call: &[u8], triple: bool) -> Payment {
     let first = detail(call, 0);
     let second = detail(call, 1);
-    if noted {
+    if triple {
         Payment::of_three(first, second, detail(call, 2))
     } else {
         Payment::of_two(first, second)
@@ -256,19 +249,20 @@ fn payment_of(call: &[u8], noted: bool) -> Payment {
 
 fn make_call(state: Writer, call: Call, bytes: &[u8], out: &mut [u8]) -> Written {
     match call {
-        Call::OpenFile => state.open_file(only_fields(bytes), out),
-        Call::OpenBatch => state.open_batch(only_fields(bytes), out),
-        Call::Pay(noted) => state.payment(payment_of(bytes, noted), out),
-        Call::CloseBatch => state.close_batch(only_fields(bytes), out),
-        Call::CloseFile => state.close_file(only_fields(bytes), out),
+        Call::OpenFile => state.open_file(only_fields(bytes, Record::FileHeader), out),
+        Call::OpenBatch => state.open_batch(only_fields(bytes, Record::BatchHeader), out),
+        Call::Pay(triple) => state.payment(payment_of(bytes, triple), out),
+        Call::CloseBatch => state.close_batch(only_fields(bytes, Record::BatchTrailer), out),
+        Call::CloseFile => state.close_file(only_fields(bytes, Record::FileTrailer), out),
     }
 }
 
 // A closed file's totals stand in the line.
 fn print_closed(state: Writer, answer: Answer) {
-    match answer {
-        Answer::Accepted => reply::outcome(Outcome::Accepted(state.machine().closed())),
-        Answer::Refused(_) => reply::line(answer),
+    if answer.is_accepted() {
+        print::outcome(Outcome::Accepted(state.checker().closed()));
+    } else {
+        print::line(answer);
     }
 }
 
@@ -276,7 +270,7 @@ fn print_answer(call: Call, state: Writer, answer: Answer) {
     if let Call::CloseFile = call {
         print_closed(state, answer);
     } else {
-        reply::line(answer);
+        print::line(answer);
     }
 }
 
@@ -334,9 +328,9 @@ fn make_steps(payload: &[u8], out: &mut [u8]) {
 pub(crate) fn run(payload: &[u8], out: &mut [u8]) {
     if is_script(payload) {
         make_steps(payload, out);
-        reply::bytes(out);
-        reply::bytes(b"\n");
+        print::bytes(out);
+        print::bytes(b"\n");
     } else {
-        reply::malformed();
+        print::malformed();
     }
 }

@@ -1,6 +1,7 @@
 -- How calls end: document 01's table of numbers with their places, and what is said of every call on the checker, on the writer, with one
 -- record and with digit strings. Assumes nothing.
 use mathlib.Core.Path.{_≡_}
+use mathlib.Core.Logic.{_⊎_}
 use mathlib.Core.Bool.{Bool, false, cond, _&&_, _||_}
 use mathlib.Core.List.{List, [], _∷_, _++_}
 use Prim.Native.Nat.{ℕ, suc, _+_, _≤_, _<_}
@@ -11,8 +12,8 @@ use Rattle.answer.specs.Output.{Writes}
 use Rattle.answer.specs.declared.Refusal.{Refusal}
 use Rattle.answer.specs.declared.Answer.{Answer}
 use Rattle.answer.specs.declared.Answer.the-variants.{Accepted, Refused}
-use Rattle.boleto.specs.Strings.{barcodeDigits, lineDigits, currencyPlace, barcodeCheck, lineCheck, barcodeOf, lineOf as digitLineOf}
-use Rattle.boleto.specs.Rules.{barcodeRules, lineRules}
+use Rattle.boleto.specs.Strings.{barcodeDigits, lineDigits, currencyPlace, barcodeCheck, lineCheck, barcodeOf, digitLineOf}
+use Rattle.boleto.specs.Rules.{barcodeRules, digitLineRules}
 use Rattle.layout.specs.Pairs.{among}
 use Rattle.layout.specs.Table.{Field, recordBytes, typePlace, segmentPlace, bankField, batchField, numberField, boletoAmount, batchRecords, batchSum, fileRecords, all}
 use Rattle.layout.specs.Record.{recordRules}
@@ -21,17 +22,17 @@ use Rattle.layout.specs.declared.Record.{Record}
 use Rattle.fields.specs.Values.{recordOf, readRecord, noFields}
 use Rattle.fields.specs.declared.Fields.{Fields}
 use Rattle.checker.specs.Line.{lineBytes, generalPlace, factorPlace, centsPlace}
-use Rattle.checker.specs.Machine.{lineOf, stepOf}
-use Rattle.checker.specs.File.{linesOf, run, finish}
-use Rattle.checker.specs.Calls.{Through}
+use Rattle.checker.specs.Machine.{start, lineOf, stepOf}
+use Rattle.checker.specs.File.{linesOf, steps, run, finish}
+use Rattle.checker.specs.Calls.{Reached, Through}
 use Rattle.checker.specs.declared.totals.Totals.{Totals}
 use Rattle.checker.specs.declared.Checker.{Checker}
 use Rattle.checker.specs.declared.Stepped.{Stepped}
 use Rattle.checker.specs.declared.file.Outcome.{Outcome}
 use Rattle.checker.specs.declared.file.Outcome.the-variants as outcome
 use Rattle.writer.specs.Given.{Call, recordsOf}
-use Rattle.writer.specs.Outcome.{Wrote}
-use Rattle.writer.specs.Calls.{AllWhole}
+use Rattle.writer.specs.Outcome.{newWriter, Wrote}
+use Rattle.writer.specs.Calls.{AllWhole, Lent, WholeCalls, left}
 use Rattle.writer.specs.declared.Writer.{Writer}
 use Rattle.writer.specs.declared.Written.{Written}
 
@@ -137,14 +138,14 @@ nothing = tt
 abbrev pub OneOfNext : ℕ → Checker → ℕ → Type 0
 OneOfNext lines s n = (lineOf s .0 ≤ n) × (n < lineOf s .0 + lines)
 
--- a call with many lines ends as one with the line behind those that are accepted
+-- a call with many lines ends as one with the line behind those that are accepted; a refusal leaves the state that the call was given
 pub record EndsBehind (s : Checker) (ls : List (List ℕ)) (x : Stepped) : Type 0 where
   pub earlier : List (List ℕ)
   pub later : List (List ℕ)
   pub before : Checker
   pub are : ls ≡ earlier ++ later
   pub through : Through s earlier before
-  pub ends : Ends before (x .state) (λ n. n ≡ lineOf before .0) (x .answer)
+  pub ends : Ends s (x .state) (λ n. n ≡ lineOf before .0) (x .answer)
 
 -- calls on the checker in a state: with a line, with many lines, with the rest of the input
 pub record CheckerCalls (s : Checker) : Type 0 where
@@ -152,23 +153,40 @@ pub record CheckerCalls (s : Checker) : Type 0 where
   pub lines : (part : List ℕ) → EndsBehind s (linesOf part) (run s part)
   pub end : (rest : List ℕ) → Concludes (OneOfNext (suc (length (linesOf rest))) s) (finish s rest)
 
+-- the states that public functions give are those that lines lead to: the start, behind a line, behind many, and the writer's behind any calls
+pub record OnlyReached : Type 0 where
+  pub at-start : Reached start
+  pub by-line : {s : Checker} → Reached s → (l : List ℕ) → Reached (stepOf s l .state)
+  pub by-lines : {s : Checker} → Reached s → (part : List ℕ) → Reached (run s part .state)
+  pub in-writer : (ls : List Lent) → WholeCalls ls → Reached (left newWriter ls .checker)
+
+-- the line that is next in a state; or none, where the state is one that no calls lead to (51)
+abbrev pub NextOrNone : Checker → ℕ → Type 0
+NextOrNone s n = (n ≡ lineOf s .0) ⊎ (n ≡ 0)
+
+-- calls on the checker in a state, whatever it is
+pub record AnyCalls (s : Checker) : Type 0 where
+  pub line : (l : List ℕ) → Ends s (stepOf s l .state) (NextOrNone s) (stepOf s l .answer)
+  pub lines : (part : List ℕ) → Ends s (run s part .state) (NextOrNone (steps s (linesOf part) .state)) (run s part .answer)
+  pub end : (rest : List ℕ) → Concludes (NextOrNone (steps s (linesOf rest) .state)) (finish s rest)
+
 -- calls on the writer in a state, each lent an output: they might change both
 pub record WriterCalls (w : Writer) : Type 0 where
   pub call : {c : Call} {out after : List ℕ} {x : Written} → AllWhole (recordsOf c) → Wrote w c out after x
-      → Ends {A = Writer × List ℕ} (w, out) (x .state, after) (OneOfNext (length (recordsOf c)) (w .machine)) (x .answer)
+      → Ends {A = Writer × List ℕ} (w, out) (x .state, after) (OneOfNext (length (recordsOf c)) (w .checker)) (x .answer)
 
 -- calls with one record: a check, a read, which gives no fields where it refuses, and a write, which might change the output
 pub record RecordCalls (r : Record) (d : Direction) : Type 0 where
   pub check : (rec : List ℕ) → Ends nothing nothing OnNoLine (firstBroken (recordRules r d rec))
-  pub read : (rec : List ℕ) → Ends noFields (readRecord r d rec .fields) OnNoLine (readRecord r d rec .answer)
+  pub read : (rec : List ℕ) → Ends (noFields r) (readRecord r d rec .fields) OnNoLine (readRecord r d rec .answer)
   pub write : (v : Fields) {out after : List ℕ} {a : Answer} → Writes (recordRules r d (recordOf r v)) recordBytes (recordOf r v) out a after
       → Ends out after OnNoLine a
 
 -- calls with digit strings: the check of a barcode and of a digit line, and the conversion of each into the other, which might change the output
 pub record StringCalls : Type 0 where
   pub check-barcode : (bar : List ℕ) → Ends nothing nothing OnNoLine (firstBroken (barcodeRules bar))
-  pub check-line : (line : List ℕ) → Ends nothing nothing OnNoLine (firstBroken (lineRules line))
+  pub check-digit-line : (line : List ℕ) → Ends nothing nothing OnNoLine (firstBroken (digitLineRules line))
   pub to-line : (bar : List ℕ) {out after : List ℕ} {a : Answer} → Writes (barcodeRules bar) lineDigits (digitLineOf bar) out a after
       → Ends out after OnNoLine a
-  pub to-barcode : (line : List ℕ) {out after : List ℕ} {a : Answer} → Writes (lineRules line) barcodeDigits (barcodeOf line) out a after
+  pub to-barcode : (line : List ℕ) {out after : List ℕ} {a : Answer} → Writes (digitLineRules line) barcodeDigits (barcodeOf line) out a after
       → Ends out after OnNoLine a

@@ -1,31 +1,25 @@
 -- The table of proved examples: twelve, in one statement. Assumes nothing.
 use Rattle.layout.specs.Kinds.{same}
-use mathlib.Core.Bool.{Bool, true, false, not, _&&_}
+use mathlib.Core.Bool.{Bool, true, not, _&&_}
 use mathlib.Core.List.{List, [], _∷_}
 use Prim.Native.Char.{code}
 use Prim.Native.Nat.{ℕ}
 use Prim.Native.String.{String, [] as []ˢ, _∷_ as _∷ˢ_}
 use lib.Dec.{T, eqb}
-use Rattle.answer.specs.Rules.{firstBroken}
-use Rattle.answer.specs.declared.Answer.{Answer}
-use Rattle.answer.specs.declared.Answer.the-variants.{Accepted, Refused}
+use Rattle.answer.specs.Rules.{accepts, firstBroken}
 use Rattle.digits.specs.Digits.{leading, weighed}
 use Rattle.digits.specs.Checks.{counts, lift, checkDigit}
 use Rattle.digits.specs.declared.sealing.Modulus.the-variants.{Ten, Eleven}
 use Rattle.calendar.specs.Calendar.{date, exists}
 use Rattle.calendar.specs.Due.{daysOfYears, dayNumber, factorOf, noDueDate, factorFits}
 use Rattle.calendar.specs.declared.Date.{Date}
-use Rattle.boleto.specs.Strings.{lineOf}
+use Rattle.boleto.specs.Strings.{digitLineOf}
 use Rattle.boleto.specs.Rules.{headRules, barcodeRules}
 
 -- a text as its bytes
 abbrev pub bytes : String → List ℕ
 bytes []ˢ = []
 bytes (c ∷ˢ s) = code c ∷ bytes s
-
-abbrev pub accepted? : Answer → Bool
-accepted? Accepted = true
-accepted? (Refused r) = false
 
 pub data Example : Type 0 where
   fieldCheck : String → ℕ → Example
@@ -38,7 +32,7 @@ pub data Example : Type 0 where
 unfoldable pub holds : Example → Bool
 holds (fieldCheck s d) = eqb (checkDigit Ten (bytes s)) d
 holds (generalCheck s d) = eqb (checkDigit Eleven (bytes s)) d
-holds (barcode b l) = accepted? (firstBroken (barcodeRules (bytes b))) && same (lineOf (bytes b)) (bytes l)
+holds (barcode b l) = accepts (firstBroken (barcodeRules (bytes b))) && same (digitLineOf (bytes b)) (bytes l)
 holds (undated f) = noDueDate f
 holds (due f d) = not (noDueDate f) && (exists d && factorFits f d)
 
@@ -63,5 +57,5 @@ every [] = true
 every (e ∷ es) = holds e && every es
 
 pub table-holds : T (every table)
-unfolding table holds same checkDigit counts lift weighed leading headRules barcodeRules firstBroken lineOf exists daysOfYears dayNumber factorOf
+unfolding table holds same checkDigit counts lift weighed leading headRules barcodeRules firstBroken digitLineOf exists daysOfYears dayNumber factorOf
 table-holds = tt

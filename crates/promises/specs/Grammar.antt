@@ -45,14 +45,14 @@ pub record Numbered (r : Record) (d : Direction) (bank batch : ℕ) (l : List �
 -- ---- payments
 
 -- in a return one optional Z behind a payment
-pub data Note : Direction → List Record → Type 0 where
-  no-note : {d : Direction} → Note d []
-  note : Note Return (SegmentZ ∷ [])
+pub data OptionalZ : Direction → List Record → Type 0 where
+  without-z : {d : Direction} → OptionalZ d []
+  with-z : OptionalZ Return (SegmentZ ∷ [])
 
 -- so many payments, each the records of the batch's kind
 pub data Payments (d : Direction) (b : Batch) : ℕ → List Record → Type 0 where
   no-payments : Payments d b 0 []
-  pay : {k : ℕ} {noted later : List Record} → Note d noted → Payments d b k later → Payments d b (k + 1) (payment b ++ (noted ++ later))
+  pay : {k : ℕ} {zs later : List Record} → OptionalZ d zs → Payments d b k later → Payments d b (k + 1) (payment b ++ (zs ++ later))
 
 -- lines that are these records, numbered from n on, and the cents of their amounts
 pub data Details (d : Direction) (bank batch : ℕ) : ℕ → List Record → List (List ℕ) → ℕ → Type 0 where
@@ -119,3 +119,18 @@ pub record Meets (bytes : List ℕ) (t : Totals) : Type 0 where
   pub lines : List (List ℕ)
   pub joined : flatten lines ≡ bytes
   pub file : RightFile lines t
+
+-- ---- the record of each line
+
+-- a batch's header, the records of its payments, its trailer
+abbrev pub recordsInBatch : {d : Direction} {bank ordinal : ℕ} {ls : List (List ℕ)} {t : Totals} → RightBatch d bank ordinal ls t → List Record
+recordsInBatch b = BatchHeader ∷ (b .records ++ BatchTrailer ∷ [])
+
+-- those of batches, one after the other
+abbrev pub recordsInBatches : {d : Direction} {bank n : ℕ} {ls : List (List ℕ)} {t : Totals} → Batches d bank n ls t → List Record
+recordsInBatches no-batches = []
+recordsInBatches (batch b on) = recordsInBatch b ++ recordsInBatches on
+
+-- the file's header, those of its batches, its trailer
+abbrev pub recordsInFile : {ls : List (List ℕ)} {t : Totals} → RightFile ls t → List Record
+recordsInFile w = FileHeader ∷ (recordsInBatches (w .batches-right) ++ FileTrailer ∷ [])

@@ -1,20 +1,20 @@
 -- The guarded places: another byte there, and an accepted file is refused. Assumes nothing.
 use mathlib.Core.Path.{_≡_}
 use mathlib.Core.List.{List, List·Memᴰ}
-use Prim.Native.Nat.{ℕ, suc, _+_, _*_, _-_, _≤_}
-use lib.ListN.{length, take, drop, set}
+use Prim.Native.Nat.{ℕ, suc, _+_, _*_, _-_, _≤_, _<_}
+use lib.ListN.{length, getD, take, drop, set}
 use Rattle.digits.specs.Digits.{digitByte}
 use Rattle.boleto.specs.Guarded.{GuardedInBarcode}
 use Rattle.layout.specs.Table.{Kind, K, O, Zeros, Exact, Field, part, fieldsOf, typeOf, recordBytes, typePlace, segmentPlace, numberField, creditAmount, barcodeField, nominalField, fineField, boletoAmount, batchRecords, batchSum, fileBatches, fileRecords}
 use Rattle.layout.specs.declared.Direction.{Direction}
 use Rattle.layout.specs.declared.Direction.the-variants.{Remittance}
 use Rattle.layout.specs.declared.Record.{Record}
-use Rattle.layout.specs.declared.Record.the-variants.{SegmentA, SegmentJ, BatchTrailer, FileTrailer}
+use Rattle.layout.specs.declared.Record.the-variants.{FileHeader, SegmentA, SegmentJ, BatchTrailer, FileTrailer}
 use Rattle.checker.specs.Line.{lineBytes, recordIn, lineIs}
 use Rattle.checker.specs.Machine.{start, directionOf}
 use Rattle.checker.specs.File.{linesOf}
 use Rattle.checker.specs.Calls.{left}
-use Rattle.checker.specs.declared.order.Due.the-variants.{Line}
+use Rattle.checker.specs.declared.order.Reading.the-variants.{Line}
 
 -- from place a to place b; in a field
 abbrev pub On : ℕ → ℕ → ℕ → Type 0
@@ -22,6 +22,10 @@ On a b p = (a ≤ p) × (p ≤ b)
 
 abbrev pub In : Field → ℕ → Type 0
 In f p = On (f .from) (f .to) p
+
+-- where the q-th place of a field stands in the record
+abbrev pub placeOf : ℕ → Field → ℕ
+placeOf q f = f .from - 1 + q
 
 -- a field of the record
 abbrev pub FieldOf : Record → Field → Type 0
@@ -46,7 +50,7 @@ pub data Guarded (d : Direction) (r : Record) (l : List ℕ) (p : ℕ) : Type 0 
   boleto-amount : r ≡ SegmentJ → In boletoAmount p → Guarded d r l p
   batch-trailer : r ≡ BatchTrailer → On (batchRecords .from) (batchSum .to) p → Guarded d r l p
   file-trailer : r ≡ FileTrailer → On (fileBatches .from) (fileRecords .to) p → Guarded d r l p
-  barcode : {q : ℕ} → r ≡ SegmentJ → GuardedInBarcode (part barcodeField (recordIn l)) q → p + 1 ≡ barcodeField .from + q → Guarded d r l p
+  barcode : {q : ℕ} → r ≡ SegmentJ → GuardedInBarcode (part barcodeField (recordIn l)) q → p ≡ placeOf q barcodeField → Guarded d r l p
 
 -- ---- in a file
 
@@ -57,6 +61,11 @@ lineAt n file = take lineBytes (drop (n * lineBytes) file)
 -- it is read as this record, behind the lines before it
 abbrev pub ReadAt : ℕ → List ℕ → Record → Type 0
 ReadAt n file r = lineIs (left start (take n (linesOf file))) (recordIn (lineAt n file)) ≡ Line r
+
+-- all lines of a file are read as these records, one each; the default is not met
+pub record EachRead (file : List ℕ) (rs : List Record) : Type 0 where
+  pub as-many : length rs ≡ length (linesOf file)
+  pub each : (n : ℕ) → n < length rs → ReadAt n file (getD rs n FileHeader)
 
 -- its place p is a guarded one of the file
 pub record GuardedIn (file : List ℕ) (n p : ℕ) : Type 0 where

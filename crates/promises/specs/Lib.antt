@@ -3,4 +3,7 @@ pub mod Calls
 pub mod Grammar
 pub mod Refusals
 pub mod Guarded
+pub mod Demands
+pub mod WrongOnes
+pub mod Rewriting
 pub mod laws

@@ -3,6 +3,7 @@ pub mod Tabled
 pub mod Families
 pub mod Facts
 pub mod Shape
+pub mod ReadAs
 pub mod Parse
 pub mod Build
 pub mod Accepted
@@ -16,5 +17,13 @@ pub mod NextLine
 pub mod OtherRecord
 pub mod Listed
 pub mod Change
+pub mod EveryLine
 pub mod AcceptedFiles
+pub mod Ways
+pub mod SecondBatch
 pub mod ShutOut
+pub mod WrongWriters
+pub mod WrongConverters
+pub mod Ahead
+pub mod Rewritten
+pub mod WrittenFile

@@ -2,11 +2,11 @@
 // the bank would, and prints the reader's line: `OK batches records payments cents`. If a call is
 // refused, its line is printed instead: `NO number line place`.
 mod records;
-mod reply;
 
-use answer::Answer;
 use checker::LINE_BYTES;
 use fields::Fields;
+use layout::Record;
+use reply::Line;
 use writer::Payment;
 use writer::Writer;
 use writer::Written;
@@ -18,10 +18,7 @@ const FILE_BYTES: usize = LINES * LINE_BYTES;
 
 fn is_refused(written: Written) -> bool {
     let answer = written.answer;
-    match answer {
-        Answer::Accepted => false,
-        Answer::Refused(_) => true,
-    }
+    !answer.is_accepted()
 }
 
 // A batch with one payment. The writer counts and sums, so nothing is left to say in its trailer.
@@ -36,7 +33,7 @@ fn write_batch(state: Writer, header: Fields, payment: Payment, out: &mut [u8]) 
         return paid;
     }
     let state = paid.state;
-    state.close_batch(Fields::blank(), out)
+    state.close_batch(Fields::blank(Record::BatchTrailer), out)
 }
 
 // Each call takes the state by value, and hands back the next state and an answer.
@@ -56,15 +53,16 @@ fn write_file(out: &mut [u8]) -> Written {
         return boletos;
     }
     let state = boletos.state;
-    state.close_file(Fields::blank(), out)
+    state.close_file(Fields::blank(Record::FileTrailer), out)
 }
 
 fn main() {
     let mut file = [0u8; FILE_BYTES];
     let written = write_file(&mut file);
     let answer = written.answer;
-    match answer {
-        Answer::Accepted => reply::outcome(checker::check_file(&file)),
-        Answer::Refused(r) => reply::refused(r),
+    if answer.is_accepted() {
+        Line::of_outcome(checker::check_file(&file)).print();
+    } else {
+        Line::of_answer(answer).print();
     }
 }

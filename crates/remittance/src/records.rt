@@ -1,10 +1,10 @@
 // The records that the caller gives: blank fields, and over them numbers and texts by the fields'
 // names. The writer fills the rest: fixed content, numbering, counts, sums, and the bank of each record
 // behind the first. Texts that hold digits, a CNPJ number or a barcode, come at full width.
+use answer::Cents;
 use fields::Fields;
 use layout::Record;
 use layout::names;
-use writer::Detail;
 use writer::Payment;
 
 const BANK: u64 = 85;
@@ -34,44 +34,38 @@ const PAYEE_BRANCH: u64 = 1234;
 
 const PAYEE_ACCOUNT: u64 = 56789;
 
-const CREDIT_CENTS: u64 = 10000;
+const CREDIT: Cents = Cents(10000);
 
 // A boleto's amount is its nominal less the discount. The barcode has the nominal and the due date
 // too, and they have to agree.
-const NOMINAL_CENTS: u64 = 125000;
+const NOMINAL: Cents = Cents(125000);
 
-const DISCOUNT_CENTS: u64 = 2500;
+const DISCOUNT: Cents = Cents(2500);
 
-const BOLETO_CENTS: u64 = NOMINAL_CENTS - DISCOUNT_CENTS;
+const BOLETO: Cents = Cents(NOMINAL.0 - DISCOUNT.0);
 
 const DUE: u64 = 21022025;
 
 pub(crate) fn file_header() -> Fields {
-    let which = Record::FileHeader;
-    Fields::blank()
-        .with_number(names::BANK, BANK)
+    Fields::blank(Record::FileHeader)
+        .with_number(names::bank(Record::FileHeader), BANK)
         .with_number(names::FILE_HEADER_ID_TYPE, CNPJ)
-        .with_text(which, names::FILE_HEADER_ID, b"12345678000195")
-        .with_text(which, names::FILE_HEADER_COMPANY, b"CLINICA BOA VISTA LTDA")
-        .with_text(which, names::FILE_HEADER_BANK_NAME, b"BANCO DO VALE")
+        .with_text(names::FILE_HEADER_ID, b"12345678000195")
+        .with_text(names::FILE_HEADER_COMPANY, b"CLINICA BOA VISTA LTDA")
+        .with_text(names::FILE_HEADER_BANK_NAME, b"BANCO DO VALE")
         .with_number(names::FILE_HEADER_DIRECTION, REMITTANCE)
         .with_number(names::FILE_HEADER_DATE, TODAY)
         .with_number(names::FILE_HEADER_TIME, NOW)
 }
 
 fn batch_header(service: u64, form: u64) -> Fields {
-    let which = Record::BatchHeader;
-    Fields::blank()
+    Fields::blank(Record::BatchHeader)
         .with_number(names::BATCH_HEADER_SERVICE, service)
         .with_number(names::BATCH_HEADER_FORM, form)
         .with_number(names::BATCH_HEADER_ID_TYPE, CNPJ)
-        .with_text(which, names::BATCH_HEADER_ID, b"12345678000195")
-        .with_text(
-            which,
-            names::BATCH_HEADER_COMPANY,
-            b"CLINICA BOA VISTA LTDA",
-        )
-        .with_text(which, names::BATCH_HEADER_CITY, b"BLUMENAU")
+        .with_text(names::BATCH_HEADER_ID, b"12345678000195")
+        .with_text(names::BATCH_HEADER_COMPANY, b"CLINICA BOA VISTA LTDA")
+        .with_text(names::BATCH_HEADER_CITY, b"BLUMENAU")
 }
 
 pub(crate) fn credit_header() -> Fields {
@@ -83,60 +77,51 @@ pub(crate) fn boleto_header() -> Fields {
 }
 
 // Who is paid how much, and when.
-fn segment_a() -> Detail {
-    let which = Record::SegmentA;
-    let fields = Fields::blank()
+fn segment_a() -> Fields {
+    Fields::blank(Record::SegmentA)
         .with_number(names::A_PAYEE_BANK, PAYEE_BANK)
         .with_number(names::A_PAYEE_BRANCH, PAYEE_BRANCH)
         .with_number(names::A_PAYEE_ACCOUNT, PAYEE_ACCOUNT)
-        .with_text(which, names::A_PAYEE, b"OXIGENIO DO VALE LTDA")
-        .with_text(which, names::A_OUR_NUMBER, b"NF 000001")
+        .with_text(names::A_PAYEE, b"OXIGENIO DO VALE LTDA")
+        .with_text(names::A_OUR_NUMBER, b"NF 000001")
         .with_number(names::A_DATE, TODAY)
-        .with_number(names::A_AMOUNT, CREDIT_CENTS);
-    Detail { which, fields }
+        .with_cents(names::A_AMOUNT, CREDIT)
 }
 
 // Who the payee is.
-fn segment_b() -> Detail {
-    let which = Record::SegmentB;
-    let fields = Fields::blank()
+fn segment_b() -> Fields {
+    Fields::blank(Record::SegmentB)
         .with_number(names::B_ID_TYPE, CNPJ)
-        .with_text(which, names::B_ID, b"23456789000110")
-        .with_text(which, names::B_ADDRESS, b"RUA DAS PALMEIRAS, 77");
-    Detail { which, fields }
+        .with_text(names::B_ID, b"23456789000110")
+        .with_text(names::B_ADDRESS, b"RUA DAS PALMEIRAS, 77")
 }
 
 // The boleto, by its barcode.
-fn segment_j() -> Detail {
-    let which = Record::SegmentJ;
-    let fields = Fields::blank()
+fn segment_j() -> Fields {
+    Fields::blank(Record::SegmentJ)
         .with_text(
-            which,
             names::J_BARCODE,
             b"08598999900001250000104080001111100000000401",
         )
-        .with_text(which, names::J_PAYEE, b"OXIGENIO DO VALE LTDA")
+        .with_text(names::J_PAYEE, b"OXIGENIO DO VALE LTDA")
         .with_number(names::J_DUE, DUE)
-        .with_number(names::J_NOMINAL, NOMINAL_CENTS)
-        .with_number(names::J_DISCOUNT, DISCOUNT_CENTS)
+        .with_cents(names::J_NOMINAL, NOMINAL)
+        .with_cents(names::J_DISCOUNT, DISCOUNT)
         .with_number(names::J_DATE, TODAY)
-        .with_number(names::J_AMOUNT, BOLETO_CENTS)
-        .with_text(which, names::J_OUR_NUMBER, b"NF 000002");
-    Detail { which, fields }
+        .with_cents(names::J_AMOUNT, BOLETO)
+        .with_text(names::J_OUR_NUMBER, b"NF 000002")
 }
 
 // Who pays whom. There is no guarantor, and an identifier is digits all the same.
-fn segment_j52() -> Detail {
-    let which = Record::SegmentJ52;
-    let fields = Fields::blank()
+fn segment_j52() -> Fields {
+    Fields::blank(Record::SegmentJ52)
         .with_number(names::J52_PAYER_ID_TYPE, CNPJ)
-        .with_text(which, names::J52_PAYER_ID, b"012345678000195")
-        .with_text(which, names::J52_PAYER, b"CLINICA BOA VISTA LTDA")
+        .with_text(names::J52_PAYER_ID, b"012345678000195")
+        .with_text(names::J52_PAYER, b"CLINICA BOA VISTA LTDA")
         .with_number(names::J52_PAYEE_ID_TYPE, CNPJ)
-        .with_text(which, names::J52_PAYEE_ID, b"023456789000110")
-        .with_text(which, names::J52_PAYEE, b"OXIGENIO DO VALE LTDA")
-        .with_text(which, names::J52_GUARANTOR_ID, b"000000000000000");
-    Detail { which, fields }
+        .with_text(names::J52_PAYEE_ID, b"023456789000110")
+        .with_text(names::J52_PAYEE, b"OXIGENIO DO VALE LTDA")
+        .with_text(names::J52_GUARANTOR_ID, b"000000000000000")
 }
 
 pub(crate) fn credit() -> Payment {

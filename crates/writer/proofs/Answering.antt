@@ -14,18 +14,20 @@ use Rattle.answer.specs.declared.Answer.the-variants.{Accepted, Refused}
 use Rattle.answer.specs.laws.Order.{accepted-kept, kept-behind, first-append, first-on-line, one-then}
 use Rattle.layout.specs.Table.{isOneOf}
 use Rattle.layout.specs.declared.Record.{Record}
+use Rattle.fields.specs.declared.Fields.{Fields}
 use Rattle.checker.specs.Machine.{lineOf}
 use Rattle.checker.specs.declared.Checker.{Checker}
-use Rattle.writer.specs.Given.{Call, pay, recordsOf}
-use Rattle.writer.specs.Refusals.{turnRule, held, turnRules, dueIn, dueNow, givenOnLine, allGiven, lastRules, callRules}
+use Rattle.writer.specs.Given.{Call, recordsOf}
+use Rattle.writer.specs.Refusals.{turnRule, held, turnLimits, turnRules, givenOnLine, lastRules, callRules}
+use Rattle.writer.specs.inner.Placed.{expectedIn, expectedNow, allGiven}
 use Rattle.writer.specs.Outcome.{writer, behindAll, cursorBehind, outputAfter, answerOf, Wrote}
-use Rattle.writer.specs.inner.Steps.{turnOf, MayPay, WroteIn}
-use Rattle.writer.specs.declared.given.Detail.{Detail}
-use Rattle.writer.specs.declared.given.Payment.{Payment}
+use Rattle.writer.specs.laws.Placed.{placed-rules}
+use Rattle.writer.specs.laws.Accepted.{off-line}
+use Rattle.writer.specs.inner.Steps.{turnOf, WroteIn}
 use Rattle.writer.specs.declared.Writer.{Writer}
 use Rattle.writer.specs.declared.Written.{Written}
 
-module _ {turn : Answer} {rules : List Rule} (w : Writer) (gs : List Detail) (out : List ℕ) where
+module _ {turn : Answer} {rules : List Rule} (w : Writer) (gs : List Fields) (out : List ℕ) where
   -- the call is out of turn
   pub turned-away : {r : Refusal} → turn ≡ Refused r → WroteIn turn rules w gs out out (record { state = w; answer = turn })
   turned-away e = record { answered = rw e; moved = rw e; memory = rw e }
@@ -36,7 +38,7 @@ module _ {turn : Answer} {rules : List Rule} (w : Writer) (gs : List Detail) (ou
     refuses e = record { answered = rw t is; moved = rw e; memory = rw e }
 
     -- all are kept
-    pub accepts : {m : Checker} {at : ℕ} {after : List ℕ} → a ≡ Accepted → m ≡ behindAll (w .machine) gs → at ≡ cursorBehind w gs
+    pub accepts : {m : Checker} {at : ℕ} {after : List ℕ} → a ≡ Accepted → m ≡ behindAll (w .checker) gs → at ≡ cursorBehind w gs
         → after ≡ outputAfter Accepted w gs out → WroteIn turn rules w gs out after (record { state = writer m at; answer = a })
     accepts e p q o = record { answered = rw t is; moved = rw (e, p, q); memory = rw e o }
 
@@ -54,32 +56,26 @@ pub turn-is : (s : Checker) (may : Bool) {limits : Answer} (ls : List Rule) → 
 unfolding firstBroken
 turn-is s may {limits} ls e = ap (λ (a : Answer). cond (held s) a (refusedAs 51 0)) (ap (onLine (lineOf s)) (one-then (turnRule may) ls limits e) ∙ sym (first-on-line (lineOf s) (turnRule may ∷ ls)))
 
--- a call in turn has a state that is held
-pub in-turn : {turn : Answer} (s : Checker) (rs : List Rule) → turn ≡ firstBroken (turnRule (held s) ∷ rs) → turn ≡ Accepted → held s ≡ true
+-- a call in turn has a state that is held, within the limits
+pub turned : {turn : Answer} (c : Call) (s : Checker) → turn ≡ firstBroken (turnRules c s) → turn ≡ Accepted → (held s ≡ true) × AllKept (turnLimits c s)
 unfolding AllKept
-in-turn s rs e t = accepted-kept _ (sym e ∙ t) .0
-
-pub may-pay : {turn : Answer} (s : Checker) (p : Payment) → turn ≡ firstBroken (turnRules (pay p) s) → turn ≡ Accepted → MayPay s
-unfolding AllKept
-may-pay s p e t =
-    let all = accepted-kept (turnRules (pay p) s) (sym e ∙ t) in
-    record { is-held = all .0; few = leb-true _ _ (all .1 .1 .0) }
+turned c s e t = let all = accepted-kept (turnRules c s) (sym e ∙ t) in (all .0, off-line (lineOf s) (turnLimits c s) (all .1))
 
 -- ---- all of a call's rules
 
 module _ {w : Writer} {out after : List ℕ} {r : Written} {turn : Answer} where
-  pub whole-call : (c : Call) → turn ≡ firstBroken (turnRules c (w .machine))
-      → WroteIn turn (allGiven (dueIn c (w .machine)) (w .machine) (recordsOf c) ++ rulesOnLine (lineOf (w .machine)) (lastRules c w out)) w (recordsOf c) out after r
+  pub whole-call : (c : Call) → turn ≡ firstBroken (turnRules c (w .checker))
+      → WroteIn turn (allGiven (expectedIn c (w .checker)) (w .checker) (recordsOf c) ++ rulesOnLine (lineOf (w .checker)) (lastRules c w out)) w (recordsOf c) out after r
       → Wrote w c out after r
   unfolding answerOf callRules
-  whole-call c e h = record { answered = h .answered ∙ rw e (sym (first-append (turnRules c (w .machine)) _)); moved = h .moved; memory = h .memory }
+  whole-call c e h = record { answered = h .answered ∙ rw (e, placed-rules c (w .checker)) (sym (first-append (turnRules c (w .checker)) _)); moved = h .moved; memory = h .memory }
 
-  -- of one record, which is the one that is due
-  pub one-due : (g : Detail) (due : List (List Record)) (ys : List Rule) → isOneOf (g .which) (dueNow due) ≡ true
-      → WroteIn turn (givenOnLine true (w .machine) g ++ ys) w (g ∷ []) out after r → WroteIn turn (allGiven due (w .machine) (g ∷ []) ++ ys) w (g ∷ []) out after r
+  -- of one record, which is the one that is expected
+  pub one-expected : (g : Fields) (expected : List (List Record)) (ys : List Rule) → isOneOf (g .which) (expectedNow expected) ≡ true
+      → WroteIn turn (givenOnLine true (w .checker) g ++ ys) w (g ∷ []) out after r → WroteIn turn (allGiven expected (w .checker) (g ∷ []) ++ ys) w (g ∷ []) out after r
   unfolding allGiven
-  one-due g due ys e h =
-      let here = givenOnLine true (w .machine) g in
+  one-expected g expected ys e h =
+      let here = givenOnLine true (w .checker) g in
       record {
         answered = h .answered ∙ rw e (ap (λ (xs : List Rule). andThen turn (firstBroken (xs ++ ys))) (sym (append-nil here)));
         moved = h .moved;

@@ -12,7 +12,6 @@ use Rattle.checker.specs.Totals.{totals, none, add}
 use Rattle.checker.specs.declared.totals.Totals.{Totals}
 use Rattle.writer.specs.Given.{Call, openFile, openBatch, pay, closeBatch, closeFile, recordsIn, recordsOf, amountIn}
 use Rattle.writer.specs.Outcome.{newWriter, linesFor, answerOf, stateAfter, outputAfter}
-use Rattle.writer.specs.declared.given.Detail.{Detail}
 use Rattle.writer.specs.declared.Writer.{Writer}
 
 -- the arrays of fields have their lengths, as those of every value that a call is given
@@ -20,9 +19,9 @@ pub record Whole (v : Fields) : Type 0 where
   pub numbers : length (v .numbers) ≡ mostFields
   pub text : length (v .text) ≡ recordBytes
 
-pub data AllWhole : List Detail → Type 0 where
+pub data AllWhole : List Fields → Type 0 where
   no-more : AllWhole []
-  and-then : {g : Detail} {gs : List Detail} → Whole (g .fields) → AllWhole gs → AllWhole (g ∷ gs)
+  and-then : {g : Fields} {gs : List Fields} → Whole g → AllWhole gs → AllWhole (g ∷ gs)
 
 -- a call, and the memory that it is lent
 pub record Lent : Type 0 where
@@ -50,7 +49,7 @@ linesIf (Refused r) ls = []
 
 unfoldable pub written : Writer → List Lent → List (List ℕ)
 written w [] = []
-written w (l ∷ ls) = linesIf (answerOf w (l .call) (l .out)) (linesFor (w .machine) (recordsOf (l .call))) ++ written (stateBehind w l) ls
+written w (l ∷ ls) = linesIf (answerOf w (l .call) (l .out)) (linesFor (w .checker) (recordsOf (l .call))) ++ written (stateBehind w l) ls
 
 -- the file: the records of the accepted calls, joined
 abbrev pub fileOf : List Lent → List ℕ

@@ -2,59 +2,70 @@
 -- wherever fields are written. Assumes nothing.
 use mathlib.Core.List.{List}
 use Prim.Native.Nat.{ℕ, _+_}
+use Rattle.layout.specs.Table.{bankField, batchField, numberField, batchRecords, batchSum, fileBatches, fileRecords}
+use Rattle.layout.specs.Names.{indexOf}
 use Rattle.layout.specs.declared.Record.{Record}
 use Rattle.layout.specs.declared.Record.the-variants.{FileHeader, BatchHeader, SegmentA, SegmentB, SegmentJ, SegmentJ52, SegmentZ, BatchTrailer, FileTrailer}
-use Rattle.fields.specs.Values.{recordOf, withNumber}
+use Rattle.fields.specs.Values.{recordOf, setNth}
 use Rattle.fields.specs.declared.Fields.{Fields}
 use Rattle.checker.specs.Line.{ordinal, headerBatch, trailerBatch}
 use Rattle.checker.specs.declared.Checker.{Checker}
-use Rattle.writer.specs.declared.given.Detail.{Detail}
 
--- where they stand among the fields of their records, from 0 on
-abbrev pub bankIndex : ℕ
-bankIndex = 0
+-- where they stand among the fields of a record, from 0 on
+abbrev pub bankIndex : Record → ℕ
+bankIndex r = indexOf r bankField
 
-abbrev pub batchIndex : ℕ
-batchIndex = 1
+abbrev pub batchIndex : Record → ℕ
+batchIndex r = indexOf r batchField
 
-abbrev pub numberIndex : ℕ
-numberIndex = 3
+abbrev pub numberIndex : Record → ℕ
+numberIndex r = indexOf r numberField
 
--- a trailer's counts and sum
-abbrev pub firstIndex : ℕ
-firstIndex = 4
+-- the trailers' counts and sum
+abbrev pub batchRecordsIndex : ℕ
+batchRecordsIndex = indexOf BatchTrailer batchRecords
 
-abbrev pub secondIndex : ℕ
-secondIndex = 5
+abbrev pub batchSumIndex : ℕ
+batchSumIndex = indexOf BatchTrailer batchSum
+
+abbrev pub fileBatchesIndex : ℕ
+fileBatchesIndex = indexOf FileTrailer fileBatches
+
+abbrev pub fileRecordsIndex : ℕ
+fileRecordsIndex = indexOf FileTrailer fileRecords
+
+-- a line: its bank and its batch
+abbrev pub filledLine : Record → ℕ → ℕ → Fields → Fields
+filledLine r bank batch v = setNth (batchIndex r) batch (setNth (bankIndex r) bank v)
 
 -- a line of a batch; a detail, numbered from 1 by one
-abbrev pub filledInBatch : Checker → Fields → Fields
-filledInBatch s v = withNumber batchIndex (ordinal s) (withNumber bankIndex (s .bank) v)
+abbrev pub filledInBatch : Record → Checker → Fields → Fields
+filledInBatch r s v = filledLine r (s .bank) (ordinal s) v
 
-abbrev pub filledDetail : Checker → Fields → Fields
-filledDetail s v = withNumber numberIndex (s .current .records .0) (filledInBatch s v)
+abbrev pub filledDetail : Record → Checker → Fields → Fields
+filledDetail r s v = setNth (numberIndex r) (s .current .records .0) (filledInBatch r s v)
 
 -- the records of the batch with its header and its trailer, and the sum of its amounts
 abbrev pub filledBatchTrailer : Checker → Fields → Fields
-filledBatchTrailer s v = withNumber secondIndex (s .current .cents .0) (withNumber firstIndex (s .current .records .0 + 1) (filledInBatch s v))
+filledBatchTrailer s v =
+    setNth batchSumIndex (s .current .cents .0) (setNth batchRecordsIndex (s .current .records .0 + 1) (filledInBatch BatchTrailer s v))
 
 -- the batches, and all records of the file with this one
 abbrev pub filledFileTrailer : Checker → Fields → Fields
 filledFileTrailer s v =
-    withNumber secondIndex (s .closed .records .0 + 1)
-    (withNumber firstIndex (s .closed .batches) (withNumber batchIndex trailerBatch (withNumber bankIndex (s .bank) v)))
+    setNth fileRecordsIndex (s .closed .records .0 + 1) (setNth fileBatchesIndex (s .closed .batches) (filledLine FileTrailer (s .bank) trailerBatch v))
 
 unfoldable pub filled : Record → Checker → Fields → Fields
-filled FileHeader s v = withNumber batchIndex headerBatch v
-filled BatchHeader s v = filledInBatch s v
-filled SegmentA s v = filledDetail s v
-filled SegmentB s v = filledDetail s v
-filled SegmentJ s v = filledDetail s v
-filled SegmentJ52 s v = filledDetail s v
-filled SegmentZ s v = filledDetail s v
+filled FileHeader s v = setNth (batchIndex FileHeader) headerBatch v
+filled BatchHeader s v = filledInBatch BatchHeader s v
+filled SegmentA s v = filledDetail SegmentA s v
+filled SegmentB s v = filledDetail SegmentB s v
+filled SegmentJ s v = filledDetail SegmentJ s v
+filled SegmentJ52 s v = filledDetail SegmentJ52 s v
+filled SegmentZ s v = filledDetail SegmentZ s v
 filled BatchTrailer s v = filledBatchTrailer s v
 filled FileTrailer s v = filledFileTrailer s v
 
 -- the record that is written
-abbrev pub bytesOf : Checker → Detail → List ℕ
-bytesOf s g = recordOf (g .which) (filled (g .which) s (g .fields))
+abbrev pub bytesOf : Checker → Fields → List ℕ
+bytesOf s g = recordOf (g .which) (filled (g .which) s g)

@@ -3,6 +3,7 @@ use mathlib.Core.Path.{_≡_}
 use mathlib.Core.List.{List, [], _∷_, _++_, flatten}
 use Prim.Native.Nat.{ℕ, _+_}
 use lib.ListN.{length, take, drop}
+use Rattle.fields.specs.declared.Fields.{Fields}
 use Rattle.answer.specs.Rules.{firstBroken}
 use Rattle.answer.specs.declared.Answer.{Answer}
 use Rattle.answer.specs.declared.Answer.the-variants.{Accepted, Refused}
@@ -12,37 +13,36 @@ use Rattle.checker.specs.declared.Checker.{Checker}
 use Rattle.writer.specs.Given.{Call, recordsOf}
 use Rattle.writer.specs.Filling.{bytesOf}
 use Rattle.writer.specs.Refusals.{nextBy, size, callRules}
-use Rattle.writer.specs.declared.given.Detail.{Detail}
 use Rattle.writer.specs.declared.Writer.{Writer}
 use Rattle.writer.specs.declared.Written.{Written}
 
 abbrev pub writer : Checker → ℕ → Writer
-writer s at = record { machine = s; cursor = at }
+writer s at = record { checker = s; cursor = at }
 
 abbrev pub newWriter : Writer
 newWriter = writer start 0
 
 -- ---- records one behind the other, from a state on
 
-unfoldable pub linesFor : Checker → List Detail → List (List ℕ)
+unfoldable pub linesFor : Checker → List Fields → List (List ℕ)
 linesFor s [] = []
 linesFor s (g ∷ gs) = lineFrom (bytesOf s g) ∷ linesFor (nextBy s g) gs
 
-unfoldable pub behindAll : Checker → List Detail → Checker
+unfoldable pub behindAll : Checker → List Fields → Checker
 behindAll s [] = s
 behindAll s (g ∷ gs) = behindAll (nextBy s g) gs
 
 -- the cursor behind them
-abbrev pub cursorBehind : Writer → List Detail → ℕ
+abbrev pub cursorBehind : Writer → List Fields → ℕ
 cursorBehind w gs = w .cursor + size (length gs)
 
 -- a refusal leaves the state and the output
-abbrev pub stateAfter : Answer → Writer → List Detail → Writer
-stateAfter Accepted w gs = writer (behindAll (w .machine) gs) (cursorBehind w gs)
+abbrev pub stateAfter : Answer → Writer → List Fields → Writer
+stateAfter Accepted w gs = writer (behindAll (w .checker) gs) (cursorBehind w gs)
 stateAfter (Refused r) w gs = w
 
-abbrev pub outputAfter : Answer → Writer → List Detail → List ℕ → List ℕ
-outputAfter Accepted w gs out = take (w .cursor) out ++ (flatten (linesFor (w .machine) gs) ++ drop (cursorBehind w gs) out)
+abbrev pub outputAfter : Answer → Writer → List Fields → List ℕ → List ℕ
+outputAfter Accepted w gs out = take (w .cursor) out ++ (flatten (linesFor (w .checker) gs) ++ drop (cursorBehind w gs) out)
 outputAfter (Refused r) w gs out = out
 
 -- ---- a call

@@ -1,9 +1,9 @@
 -- The refusals of a call, in the paper's order. Assumes nothing.
-use mathlib.Core.Bool.{Bool, true, false, _&&_}
+use mathlib.Core.Bool.{Bool, true, false, cond, _&&_}
 use mathlib.Core.List.{List, [], _∷_, _++_}
 use Prim.Native.Nat.{ℕ, _+_, _*_}
 use lib.Dec.{leb, ltb}
-use lib.ListN.{length, drop}
+use lib.ListN.{length}
 use Rattle.answer.specs.Limits.{fileCents, mostRecords}
 use Rattle.answer.specs.Rules.{Rule, rule, rulesOnLine}
 use Rattle.answer.specs.Output.{room}
@@ -13,15 +13,16 @@ use Rattle.layout.specs.declared.Direction.{Direction}
 use Rattle.layout.specs.declared.Direction.the-variants.{Remittance, Return}
 use Rattle.layout.specs.declared.Record.{Record}
 use Rattle.layout.specs.declared.Record.the-variants.{FileHeader, BatchHeader, SegmentZ, BatchTrailer, FileTrailer}
+use Rattle.fields.specs.Values.{takenAs}
+use Rattle.fields.specs.declared.Fields.{Fields}
 use Rattle.checker.specs.Order.{first, second}
 use Rattle.checker.specs.Line.{ordinal, mostBatches, mostPayments, houseRules, lineBytes}
 use Rattle.checker.specs.Machine.{lineOf, next, sound, mostDetails}
 use Rattle.checker.specs.declared.order.Phase.{Phase}
-use Rattle.checker.specs.declared.order.Phase.the-variants.{Start, Headed, Opened, Begun, Paid, Noted, Closed, Ended}
+use Rattle.checker.specs.declared.order.Phase.the-variants.{Start, Headed, Opened, Begun, Paid, BehindZ, Closed, Ended}
 use Rattle.checker.specs.declared.Checker.{Checker}
 use Rattle.writer.specs.Given.{Call, openFile, openBatch, pay, closeBatch, closeFile, recordsIn, recordsOf, amountIn}
 use Rattle.writer.specs.Filling.{bytesOf}
-use Rattle.writer.specs.declared.given.Detail.{Detail}
 use Rattle.writer.specs.declared.given.Payment.{Payment}
 use Rattle.writer.specs.declared.turns.Turns.{Turns}
 use Rattle.writer.specs.declared.Writer.{Writer}
@@ -42,7 +43,7 @@ turns Headed = may false true false false false
 turns Opened = may false false true false false
 turns Begun = may false false false false false
 turns Paid = may false false true true false
-turns Noted = may false false true true false
+turns BehindZ = may false false true true false
 turns Closed = may false true false false true
 turns Ended = may false false false false false
 
@@ -88,42 +89,42 @@ turnLimits (closeFile v) s = turnRule (turns (s .phase) .end) ∷ []
 -- ---- record by record the reader's 4, 11, fields and 16 to 19
 
 -- the third record of a payment, in a return
-abbrev pub notes : Direction → List Record
-notes Remittance = []
-notes Return = SegmentZ ∷ []
+abbrev pub zIn : Direction → List Record
+zIn Remittance = []
+zIn Return = SegmentZ ∷ []
 
--- the records that are due, at each position
-abbrev pub dueInPayment : Checker → List (List Record)
-dueInPayment s = first (s .batch) ∷ second (s .batch) ∷ notes (s .dir) ∷ []
+-- a record in its place: the records of which one is expected there, and the one that is given
+pub record Placed : Type 0 where
+  pub expected : List Record
+  pub given : Fields
 
-abbrev pub dueIn : Call → Checker → List (List Record)
-dueIn (openFile v) s = (FileHeader ∷ []) ∷ []
-dueIn (openBatch v) s = (BatchHeader ∷ []) ∷ []
-dueIn (pay p) s = dueInPayment s
-dueIn (closeBatch v) s = (BatchTrailer ∷ []) ∷ []
-dueIn (closeFile v) s = (FileTrailer ∷ []) ∷ []
+abbrev pub placed : List Record → Fields → Placed
+placed rs g = record { expected = rs; given = g }
 
--- the next position's
-abbrev pub dueNow : List (List Record) → List Record
-dueNow [] = []
-dueNow (rs ∷ later) = rs
+-- the records of a call, each in its place
+abbrev pub placedIn : Call → Checker → List Placed
+placedIn (openFile v) s = placed (FileHeader ∷ []) (takenAs FileHeader v) ∷ []
+placedIn (openBatch v) s = placed (BatchHeader ∷ []) (takenAs BatchHeader v) ∷ []
+placedIn (pay p) s = placed (first (s .batch)) (p .first) ∷ placed (second (s .batch)) (p .second) ∷ cond (p .triple) (placed (zIn (s .dir)) (p .third) ∷ []) []
+placedIn (closeBatch v) s = placed (BatchTrailer ∷ []) (takenAs BatchTrailer v) ∷ []
+placedIn (closeFile v) s = placed (FileTrailer ∷ []) (takenAs FileTrailer v) ∷ []
 
--- a record that is given: its bytes, whether it is one that is due, its fields, and what the house asks
+-- a record that is given: its bytes, whether it is one that is expected, its fields, and what the house asks
 unfoldable pub givenRules : Bool → Record → Direction → List ℕ → List Rule
-givenRules due r d rec = byteRule rec ∷ rule 11 segmentPlace due ∷ rulesOf (fieldsOf r) d rec ++ houseRules r rec
+givenRules expected r d rec = byteRule rec ∷ rule 11 segmentPlace expected ∷ rulesOf (fieldsOf r) d rec ++ houseRules r rec
 
 -- as it is written in a state, on the line that is next there
-abbrev pub givenOnLine : Bool → Checker → Detail → List Rule
-givenOnLine due s g = rulesOnLine (lineOf s) (givenRules due (g .which) (s .dir) (bytesOf s g))
+abbrev pub givenOnLine : Bool → Checker → Fields → List Rule
+givenOnLine expected s g = rulesOnLine (lineOf s) (givenRules expected (g .which) (s .dir) (bytesOf s g))
 
 -- the machine behind it
-abbrev pub nextBy : Checker → Detail → Checker
+abbrev pub nextBy : Checker → Fields → Checker
 nextBy s g = next (g .which) s (bytesOf s g)
 
 -- each record on its line, in the state that the records before it leave
-unfoldable pub allGiven : List (List Record) → Checker → List Detail → List Rule
-allGiven due s [] = []
-allGiven due s (g ∷ gs) = givenOnLine (isOneOf (g .which) (dueNow due)) s g ++ allGiven (drop 1 due) (nextBy s g) gs
+unfoldable pub placedRules : Checker → List Placed → List Rule
+placedRules s [] = []
+placedRules s (x ∷ xs) = givenOnLine (isOneOf (x .given .which) (x .expected)) s (x .given) ++ placedRules (nextBy s (x .given)) xs
 
 -- ---- 23 and 50
 
@@ -145,7 +146,7 @@ abbrev pub size : ℕ → ℕ
 size lines = lineBytes * lines
 
 abbrev pub lastRules : Call → Writer → List ℕ → List Rule
-lastRules c w out = sumRules c (w .machine) ++ room (w .cursor + size (length (recordsOf c))) out ∷ []
+lastRules c w out = sumRules c (w .checker) ++ room (w .cursor + size (length (recordsOf c))) out ∷ []
 
 -- ---- a call
 
@@ -158,5 +159,5 @@ turnRules c s = turnRule (held s) ∷ rulesOnLine (lineOf s) (turnLimits c s)
 
 unfoldable pub callRules : Writer → Call → List ℕ → List Rule
 callRules w c out =
-    turnRules c (w .machine)
-    ++ (allGiven (dueIn c (w .machine)) (w .machine) (recordsOf c) ++ rulesOnLine (lineOf (w .machine)) (lastRules c w out))
+    turnRules c (w .checker)
+    ++ (placedRules (w .checker) (placedIn c (w .checker)) ++ rulesOnLine (lineOf (w .checker)) (lastRules c w out))

@@ -1,2 +1,3 @@
 -- What only private contracts speak of: nothing here has to be believed.
+pub mod Placed
 pub mod Steps

@@ -1,11 +1,13 @@
 -- What is proved of the definitions, for other crates to cite.
-pub mod Due
+pub mod Expected
 pub mod Sound
+pub mod Placed
 pub mod Accepted
 pub mod Filled
 pub mod Lines
 pub mod Reads
 pub mod Ruled
+pub mod GivenBack
 pub mod Turn
 pub mod TakesLine
 pub mod TakesCall
@@ -19,3 +21,4 @@ pub mod Memory
 pub mod Numbers
 pub mod RefusedLine
 pub mod Holds
+pub mod Taken

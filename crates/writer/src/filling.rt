@@ -1,4 +1,5 @@
 // What the writer fills: the bank of every later record, the numbering, the counts and the sum.
+use answer::RecordCount;
 use checker::Checker;
 use checker::HEADER_BATCH;
 use checker::TRAILER_BATCH;
@@ -6,52 +7,66 @@ use fields::Fields;
 use layout::Record;
 use layout::names;
 ghost use mathlib.Core.Path.{_≡_};
+ghost use Rattle.layout.specs.declared.Record.the-variants.{BatchTrailer, FileTrailer};
 ghost use Rattle.checker.specs.inner.Steps.{Bounded};
-ghost use Rattle.writer.specs.Filling.{filledInBatch, filledDetail, filledBatchTrailer, filledFileTrailer, filled};
+ghost use Rattle.writer.specs.Filling.{filledLine, filledInBatch, filledDetail, filledBatchTrailer, filledFileTrailer, filled};
+
+// What all lines have.
+fn fill_line(v: Fields, bank: u64, batch: u64) -> Fields
+    ensures { λ r. ⌜ r ≡ filledLine (v .which) bank batch v ⌝ }
+{
+    let which = v.which;
+    v.with_number(names::bank(which), bank)
+        .with_number(names::batch_number(which), batch)
+}
 
 fn fill_in_batch(m: Checker, v: Fields) -> Fields
     requires { ⌜ Bounded m ⌝ }
-    ensures { λ r. ⌜ r ≡ filledInBatch m v ⌝ }
+    ensures { λ r. ⌜ r ≡ filledInBatch (v .which) m v ⌝ }
 {
-    v.with_number(names::BANK, m.bank())
-        .with_number(names::BATCH_NUMBER, m.closed().batches + 1)
+    fill_line(v, m.bank(), m.closed().batches + 1)
 }
 
 // The header of the batch counts, so its records number the next detail from 1.
 fn fill_detail(m: Checker, v: Fields) -> Fields
     requires { ⌜ Bounded m ⌝ }
-    ensures { λ r. ⌜ r ≡ filledDetail m v ⌝ }
+    ensures { λ r. ⌜ r ≡ filledDetail (v .which) m v ⌝ }
 {
-    fill_in_batch(m, v).with_number(names::DETAIL_NUMBER, m.current().records.0)
+    let which = v.which;
+    fill_in_batch(m, v).with_records(names::detail_number(which), m.current().records)
 }
 
 fn fill_batch_trailer(m: Checker, v: Fields) -> Fields
     requires { ⌜ Bounded m ⌝ }
+    requires { ⌜ v .which ≡ BatchTrailer ⌝ }
     ensures { λ r. ⌜ r ≡ filledBatchTrailer m v ⌝ }
 {
     let current = m.current();
+    let records = RecordCount(current.records.0 + 1);
     fill_in_batch(m, v)
-        .with_number(names::BATCH_TRAILER_RECORDS, current.records.0 + 1)
-        .with_number(names::BATCH_TRAILER_SUM, current.cents.0)
+        .with_records(names::BATCH_TRAILER_RECORDS, records)
+        .with_cents(names::BATCH_TRAILER_SUM, current.cents)
 }
 
 fn fill_file_trailer(m: Checker, v: Fields) -> Fields
     requires { ⌜ Bounded m ⌝ }
+    requires { ⌜ v .which ≡ FileTrailer ⌝ }
     ensures { λ r. ⌜ r ≡ filledFileTrailer m v ⌝ }
 {
     let closed = m.closed();
-    v.with_number(names::BANK, m.bank())
-        .with_number(names::BATCH_NUMBER, TRAILER_BATCH)
+    let records = RecordCount(closed.records.0 + 1);
+    fill_line(v, m.bank(), TRAILER_BATCH)
         .with_number(names::FILE_TRAILER_BATCHES, closed.batches)
-        .with_number(names::FILE_TRAILER_RECORDS, closed.records.0 + 1)
+        .with_records(names::FILE_TRAILER_RECORDS, records)
 }
 
-pub(crate) fn fill(m: Checker, which: Record, v: Fields) -> Fields
+pub(crate) fn fill(m: Checker, v: Fields) -> Fields
     requires { ⌜ Bounded m ⌝ }
-    ensures { λ r. ⌜ r ≡ filled which m v ⌝ }
+    ensures { λ r. ⌜ r ≡ filled (v .which) m v ⌝ }
 {
+    let which = v.which;
     match which {
-        Record::FileHeader => v.with_number(names::BATCH_NUMBER, HEADER_BATCH),
+        Record::FileHeader => v.with_number(names::batch_number(which), HEADER_BATCH),
         Record::BatchHeader => fill_in_batch(m, v),
         Record::SegmentA => fill_detail(m, v),
         Record::SegmentB => fill_detail(m, v),

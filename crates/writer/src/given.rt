@@ -1,47 +1,39 @@
-// What a payment is given: two records, and perhaps a third.
+// What a payment is given: the fields of two records, and perhaps of a third. What the writer fills is
+// not looked at.
 use fields::Fields;
 use layout::Record;
 ghost use mathlib.Core.Path.{_≡_};
 ghost use Rattle.writer.specs.Given.{two, three};
 
-// A record: its kind, and its fields. What the writer fills is not looked at.
-pub struct Detail {
-    pub which: Record,
-    pub fields: Fields,
-}
-
 // No other count of records can be written down. Without a third, its place holds none.
 pub struct Payment {
-    pub(crate) first: Detail,
-    pub(crate) second: Detail,
-    pub(crate) third: Detail,
-    pub(crate) noted: bool,
+    pub(crate) first: Fields,
+    pub(crate) second: Fields,
+    pub(crate) third: Fields,
+    pub(crate) triple: bool,
 }
 
 impl Payment {
-    pub fn of_two(first: Detail, second: Detail) -> Payment
+    pub fn of_two(first: Fields, second: Fields) -> Payment
         ensures { λ r. ⌜ r ≡ two first second ⌝ }
     {
-        let fields = Fields::none();
+        let third = Fields::none(Record::SegmentZ);
         Payment {
             first,
             second,
-            third: Detail {
-                which: Record::SegmentZ,
-                fields,
-            },
-            noted: false,
+            third,
+            triple: false,
         }
     }
 
-    pub fn of_three(first: Detail, second: Detail, third: Detail) -> Payment
+    pub fn of_three(first: Fields, second: Fields, third: Fields) -> Payment
         ensures { λ r. ⌜ r ≡ three first second third ⌝ }
     {
         Payment {
             first,
             second,
             third,
-            noted: true,
+            triple: true,
         }
     }
 }

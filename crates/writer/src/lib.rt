@@ -11,7 +11,6 @@ use answer::numbers;
 use checker::Checker;
 use checker::LINE_BYTES;
 use fields::Fields;
-pub use given::Detail;
 pub use given::Payment;
 use layout::Record;
 use payments::check_sum;
@@ -33,14 +32,14 @@ ghost use lib.Dec.{leb};
 ghost use Rattle.answer.specs.Rules.{firstBroken};
 ghost use Rattle.answer.specs.Output.{room};
 ghost use Rattle.answer.specs.declared.Answer.the-variants.{Accepted};
-ghost use Rattle.writer.specs.Given.{given, recordsIn, openFile, openBatch, pay, closeBatch, closeFile};
-ghost use Rattle.writer.specs.Refusals.{size, held};
+ghost use Rattle.writer.specs.Given.{recordsIn, openFile, openBatch, pay, closeBatch, closeFile};
+ghost use Rattle.writer.specs.Refusals.{size};
 ghost use Rattle.writer.specs.Outcome.{newWriter, Wrote};
-ghost use Rattle.writer.specs.inner.Steps.{WroteIn, oneRules, paymentRules, MayPay};
+ghost use Rattle.writer.specs.inner.Steps.{WroteIn, oneRules, paymentRules, MayTry, MayPay};
 
 // The machine's state behind what was written, and the place that was reached in the output.
 pub struct Writer {
-    machine: Checker,
+    checker: Checker,
     cursor: usize,
 }
 
@@ -57,20 +56,21 @@ fn has_room(at: usize, bytes: usize, len: usize) -> bool
 }
 
 impl Writer {
+    // Before any call.
     pub fn start() -> Writer
         ensures { λ r. ⌜ r ≡ newWriter ⌝ }
     {
         Writer {
-            machine: Checker::start(),
+            checker: Checker::start(),
             cursor: 0,
         }
     }
 
     // The machine's state, with what was counted so far.
-    pub fn machine(self) -> Checker
-        ensures { λ r. ⌜ r ≡ self .machine ⌝ }
+    pub fn checker(self) -> Checker
+        ensures { λ r. ⌜ r ≡ self .checker ⌝ }
     {
-        self.machine
+        self.checker
     }
 
     // How many bytes of the output are written.
@@ -88,9 +88,9 @@ impl Writer {
     }
 
     // A call that writes one record, a header or a trailer, behind its turn.
-    fn write_one(self, turn: Answer, which: Record, v: Fields, out: &mut [u8]) -> Written
-        requires { ⌜ (turn ≡ Accepted → held (self .machine) ≡ true) ⌝ }
-        ensures { λ r. ⌜ WroteIn turn (oneRules self (given which v) (now (out .entry))) self (given which v ∷ []) (now (out .entry)) (now (out .exit)) r ⌝ }
+    fn write_one(self, turn: Answer, v: Fields, out: &mut [u8]) -> Written
+        requires { ⌜ (turn ≡ Accepted → MayTry true (v .which) (self .checker)) ⌝ }
+        ensures { λ r. ⌜ WroteIn turn (oneRules self v (now (out .entry))) self (v ∷ []) (now (out .entry)) (now (out .exit)) r ⌝ }
     {
         match turn {
             Answer::Accepted => {}
@@ -102,10 +102,10 @@ impl Writer {
             }
         }
         let cursor = self.cursor;
-        let machine = self.machine;
-        let tried = try_record(machine, true, which, v);
+        let checker = self.checker;
+        let tried = try_record(checker, true, v);
         let right = tried.answer;
-        let room = self.room(LINE_BYTES, out).on_line(machine.next_line());
+        let room = self.room(LINE_BYTES, out).on_line(checker.next_line());
         let answer = right.and_then(room);
         match answer {
             Answer::Refused(_) => Written {
@@ -113,12 +113,12 @@ impl Writer {
                 answer,
             },
             Answer::Accepted => {
-                let fields = tried.fields;
-                let machine = tried.machine;
-                put_line(fields, which, &mut out[cursor..]);
+                let made = tried.made;
+                let checker = tried.checker;
+                put_line(made, &mut out[cursor..]);
                 Written {
                     state: Writer {
-                        machine,
+                        checker,
                         cursor: cursor + LINE_BYTES,
                     },
                     answer,
@@ -131,25 +131,25 @@ impl Writer {
     pub fn open_file(self, v: Fields, out: &mut [u8]) -> Written
         ensures { λ r. ⌜ Wrote self (openFile v) (now (out .entry)) (now (out .exit)) r ⌝ }
     {
-        let machine = self.machine;
-        let may = turns_at(machine.phase()).header;
-        let turn = check_turn(machine, may, Answer::Accepted);
-        self.write_one(turn, Record::FileHeader, v, out)
+        let checker = self.checker;
+        let may = turns_at(checker.phase()).header;
+        let turn = check_turn(checker, may, Answer::Accepted);
+        self.write_one(turn, v.taken_as(Record::FileHeader), out)
     }
 
     // A batch header, whose service and form give the batch its kind.
     pub fn open_batch(self, v: Fields, out: &mut [u8]) -> Written
         ensures { λ r. ⌜ Wrote self (openBatch v) (now (out .entry)) (now (out .exit)) r ⌝ }
     {
-        let machine = self.machine;
-        let may = turns_at(machine.phase()).batch;
-        let turn = check_turn(machine, may, batch_limits(machine));
-        self.write_one(turn, Record::BatchHeader, v, out)
+        let checker = self.checker;
+        let may = turns_at(checker.phase()).batch;
+        let turn = check_turn(checker, may, batch_limits(checker));
+        self.write_one(turn, v.taken_as(Record::BatchHeader), out)
     }
 
     // A payment, behind its turn: its records, then the sum of all payments so far, then room.
     fn write_payment(self, turn: Answer, p: Payment, out: &mut [u8]) -> Written
-        requires { ⌜ (turn ≡ Accepted → MayPay (self .machine)) ⌝ }
+        requires { ⌜ (turn ≡ Accepted → MayPay (self .checker)) ⌝ }
         ensures { λ r. ⌜ WroteIn turn (paymentRules self p (now (out .entry))) self (recordsIn p) (now (out .entry)) (now (out .exit)) r ⌝ }
     {
         match turn {
@@ -162,26 +162,26 @@ impl Writer {
             }
         }
         let cursor = self.cursor;
-        let machine = self.machine;
-        let tried = try_payment(machine, p);
+        let checker = self.checker;
+        let tried = try_payment(checker, p);
         let right = tried.answer;
         let bytes = size_of(p);
-        let last = check_sum(machine, p).and_then(self.room(bytes, out));
-        let answer = right.and_then(last.on_line(machine.next_line()));
+        let last = check_sum(checker, p).and_then(self.room(bytes, out));
+        let answer = right.and_then(last.on_line(checker.next_line()));
         match answer {
             Answer::Refused(_) => Written {
                 state: self,
                 answer,
             },
             Answer::Accepted => {
-                let machine = tried.machine;
+                let checker = tried.checker;
                 let a = tried.first;
                 let b = tried.second;
                 let c = tried.third;
                 put_payment(p, a, b, c, &mut out[cursor..]);
                 Written {
                     state: Writer {
-                        machine,
+                        checker,
                         cursor: cursor + bytes,
                     },
                     answer,
@@ -194,10 +194,10 @@ impl Writer {
     pub fn payment(self, p: Payment, out: &mut [u8]) -> Written
         ensures { λ r. ⌜ Wrote self (pay p) (now (out .entry)) (now (out .exit)) r ⌝ }
     {
-        let machine = self.machine;
-        let may = turns_at(machine.phase()).payment;
-        let limits = payment_limits(machine, count_of(p));
-        let turn = check_turn(machine, may, limits);
+        let checker = self.checker;
+        let may = turns_at(checker.phase()).payment;
+        let limits = payment_limits(checker, count_of(p));
+        let turn = check_turn(checker, may, limits);
         self.write_payment(turn, p, out)
     }
 
@@ -205,19 +205,19 @@ impl Writer {
     pub fn close_batch(self, v: Fields, out: &mut [u8]) -> Written
         ensures { λ r. ⌜ Wrote self (closeBatch v) (now (out .entry)) (now (out .exit)) r ⌝ }
     {
-        let machine = self.machine;
-        let may = turns_at(machine.phase()).trailer;
-        let turn = check_turn(machine, may, Answer::Accepted);
-        self.write_one(turn, Record::BatchTrailer, v, out)
+        let checker = self.checker;
+        let may = turns_at(checker.phase()).trailer;
+        let turn = check_turn(checker, may, Answer::Accepted);
+        self.write_one(turn, v.taken_as(Record::BatchTrailer), out)
     }
 
     // The file trailer. Behind it every call is out of turn.
     pub fn close_file(self, v: Fields, out: &mut [u8]) -> Written
         ensures { λ r. ⌜ Wrote self (closeFile v) (now (out .entry)) (now (out .exit)) r ⌝ }
     {
-        let machine = self.machine;
-        let may = turns_at(machine.phase()).end;
-        let turn = check_turn(machine, may, Answer::Accepted);
-        self.write_one(turn, Record::FileTrailer, v, out)
+        let checker = self.checker;
+        let may = turns_at(checker.phase()).end;
+        let turn = check_turn(checker, may, Answer::Accepted);
+        self.write_one(turn, v.taken_as(Record::FileTrailer), out)
     }
 }

@@ -10,6 +10,7 @@ use answer::numbers;
 use checker::Checker;
 use checker::LINE_BYTES;
 use fields::Fields;
+use fields::Made;
 use layout::Batch;
 use layout::Direction;
 use layout::Record;
@@ -21,20 +22,22 @@ ghost use Prim.Native.Nat.{_≤_};
 ghost use lib.Dec.{eqb};
 ghost use lib.ListN.{length, take, drop};
 ghost use Rattle.answer.specs.Rules.{firstBroken};
+ghost use Rattle.answer.specs.declared.Answer.the-variants.{Accepted};
 ghost use Rattle.layout.specs.Table.{code, isOneOf};
 ghost use Rattle.checker.specs.Order.{first, second};
 ghost use Rattle.checker.specs.Machine.{sound, mostDetails};
 ghost use Rattle.writer.specs.Given.{amountOf, recordsIn};
-ghost use Rattle.writer.specs.Refusals.{notes, nextBy, leastDetails, sumRule, size};
-ghost use Rattle.writer.specs.inner.Steps.{linesThird, linesWith, TriesThird, TriesLater, TriesPayment, MayPay};
+ghost use Rattle.writer.specs.Refusals.{zIn, nextBy, leastDetails, sumRule, size};
+ghost use Rattle.writer.specs.inner.Steps.{linesThird, linesWith, MayTry, AllRight, TriesThird, TriesLater, TriesPayment, MayPay};
 
-// The answer, and where it accepts, the state behind all records and their fields as they are written.
+// The answer, and where it accepts, the state behind all records, which are made. Without a third, its
+// place holds the second again.
 pub(crate) struct TriedPayment {
     pub(crate) answer: Answer,
-    pub(crate) machine: Checker,
-    pub(crate) first: Fields,
-    pub(crate) second: Fields,
-    pub(crate) third: Fields,
+    pub(crate) checker: Checker,
+    pub(crate) first: Made,
+    pub(crate) second: Made,
+    pub(crate) third: Made,
 }
 
 // Kinds of record, told apart.
@@ -65,8 +68,8 @@ fn goes_on(which: Record, batch: Batch) -> bool
     }
 }
 
-fn notes(which: Record, dir: Direction) -> bool
-    ensures { λ r. ⌜ r ≡ isOneOf which (notes dir) ⌝ }
+fn is_z(which: Record, dir: Direction) -> bool
+    ensures { λ r. ⌜ r ≡ isOneOf which (zIn dir) ⌝ }
 {
     match dir {
         Direction::Remittance => false,
@@ -75,15 +78,16 @@ fn notes(which: Record, dir: Direction) -> bool
 }
 
 // The amount of a payment stands in its first record.
-fn amount_of(which: Record, v: Fields) -> Cents
-    ensures { λ r. ⌜ r .0 ≡ amountOf which v ⌝ }
+fn amount_of(v: Fields) -> Cents
+    ensures { λ r. ⌜ r .0 ≡ amountOf (v .which) v ⌝ }
 {
+    let which = v.which;
     match which {
         Record::FileHeader => Cents(0),
         Record::BatchHeader => Cents(0),
-        Record::SegmentA => Cents(v.number_at(names::A_AMOUNT)),
+        Record::SegmentA => v.cents_at(names::A_AMOUNT),
         Record::SegmentB => Cents(0),
-        Record::SegmentJ => Cents(v.number_at(names::J_AMOUNT)),
+        Record::SegmentJ => v.cents_at(names::J_AMOUNT),
         Record::SegmentJ52 => Cents(0),
         Record::SegmentZ => Cents(0),
         Record::BatchTrailer => Cents(0),
@@ -92,53 +96,50 @@ fn amount_of(which: Record, v: Fields) -> Cents
 }
 
 // The third record, if there is one.
-fn try_third(m: Checker, p: Payment, dir: Direction) -> Tried
-    requires { ⌜ sound m ≡ true ⌝ }
+fn try_third(m: Checker, p: Payment, second: Made, dir: Direction) -> Tried
+    requires { ⌜ MayTry (isOneOf (p .third .which) (zIn dir)) (p .third .which) m ⌝ }
     ensures { λ r. ⌜ TriesThird m dir p r ⌝ }
 {
-    if p.noted {
+    if p.triple {
         let third = p.third;
         let which = third.which;
-        let v = third.fields;
-        return try_record(m, notes(which, dir), which, v);
+        return try_record(m, is_z(which, dir), third);
     }
-    let fields = Fields::none();
     Tried {
         answer: Answer::Accepted,
-        machine: m,
-        fields,
+        checker: m,
+        made: second,
     }
 }
 
 // The second record, and then the third.
-fn try_later(m: Checker, p: Payment, first: Fields, dir: Direction, batch: Batch) -> TriedPayment
-    requires { ⌜ sound m ≡ true ⌝ }
-    requires { ⌜ (isOneOf (p .second .which) (second batch) ≡ true → sound (nextBy m (p .second)) ≡ true) ⌝ }
+fn try_later(m: Checker, p: Payment, first: Made, dir: Direction, batch: Batch) -> TriedPayment
+    requires { ⌜ MayTry (isOneOf (p .second .which) (second batch)) (p .second .which) m ⌝ }
+    requires { ⌜ (isOneOf (p .second .which) (second batch) ≡ true → MayTry (isOneOf (p .third .which) (zIn dir)) (p .third .which) (nextBy m (p .second))) ⌝ }
     ensures { λ r. ⌜ TriesLater m dir batch p first r ⌝ }
 {
     let second = p.second;
     let which = second.which;
-    let v = second.fields;
-    let tried = try_record(m, goes_on(which, batch), which, v);
+    let tried = try_record(m, goes_on(which, batch), second);
     let answer = tried.answer;
-    let second = tried.fields;
-    let machine = tried.machine;
+    let second = tried.made;
+    let checker = tried.checker;
     match answer {
         Answer::Refused(_) => TriedPayment {
             answer,
-            machine,
+            checker,
             first,
             second,
             third: second,
         },
         Answer::Accepted => {
-            let last = try_third(machine, p, dir);
+            let last = try_third(checker, p, second, dir);
             let answer = last.answer;
-            let machine = last.machine;
-            let third = last.fields;
+            let checker = last.checker;
+            let third = last.made;
             TriedPayment {
                 answer,
-                machine,
+                checker,
                 first,
                 second,
                 third,
@@ -156,46 +157,41 @@ pub(crate) fn try_payment(m: Checker, p: Payment) -> TriedPayment
     let batch = m.batch();
     let first = p.first;
     let which = first.which;
-    let v = first.fields;
-    let tried = try_record(m, begins(which, batch), which, v);
+    let tried = try_record(m, begins(which, batch), first);
     let answer = tried.answer;
-    let fields = tried.fields;
-    let machine = tried.machine;
+    let made = tried.made;
+    let checker = tried.checker;
     match answer {
         Answer::Refused(_) => TriedPayment {
             answer,
-            machine,
-            first: fields,
-            second: fields,
-            third: fields,
+            checker,
+            first: made,
+            second: made,
+            third: made,
         },
-        Answer::Accepted => try_later(machine, p, fields, dir, batch),
+        Answer::Accepted => try_later(checker, p, made, dir, batch),
     }
 }
 
 // The third line of a payment, if it has one.
-fn put_third(p: Payment, v: Fields, part: &mut [u8])
+fn put_third(p: Payment, made: Made, part: &mut [u8])
+    requires { ⌜ (p .triple ≡ true → made .answer ≡ Accepted) ⌝ }
     requires { ⌜ size (length (recordsIn p)) ≤ length (now part) ⌝ }
-    ensures { λ _. ⌜ now (part .exit) ≡ take (size leastDetails) (now (part .entry)) ++ (flatten (linesThird p v) ++ drop (size (length (recordsIn p))) (now (part .entry))) ⌝ }
+    ensures { λ _. ⌜ now (part .exit) ≡ take (size leastDetails) (now (part .entry)) ++ (flatten (linesThird p made) ++ drop (size (length (recordsIn p))) (now (part .entry))) ⌝ }
 {
-    if p.noted {
-        let third = p.third;
-        let which = third.which;
-        put_line(v, which, &mut part[2 * LINE_BYTES..]);
+    if p.triple {
+        put_line(made, &mut part[2 * LINE_BYTES..]);
     }
 }
 
 // The lines of a payment, over the first bytes of this part of the output.
-pub(crate) fn put_payment(p: Payment, a: Fields, b: Fields, c: Fields, part: &mut [u8])
+pub(crate) fn put_payment(p: Payment, a: Made, b: Made, c: Made, part: &mut [u8])
+    requires { ⌜ AllRight p a b c ⌝ }
     requires { ⌜ size (length (recordsIn p)) ≤ length (now part) ⌝ }
     ensures { λ _. ⌜ now (part .exit) ≡ flatten (linesWith p a b c) ++ drop (size (length (recordsIn p))) (now (part .entry)) ⌝ }
 {
-    let first = p.first;
-    let second = p.second;
-    let which = first.which;
-    put_line(a, which, part);
-    let which = second.which;
-    put_line(b, which, &mut part[LINE_BYTES..]);
+    put_line(a, part);
+    put_line(b, &mut part[LINE_BYTES..]);
     put_third(p, c, part);
 }
 
@@ -203,7 +199,7 @@ pub(crate) fn put_payment(p: Payment, a: Fields, b: Fields, c: Fields, part: &mu
 pub(crate) fn count_of(p: Payment) -> RecordCount
     ensures { λ r. ⌜ (r .0 ≡ length (recordsIn p)) × (r .0 ≤ mostDetails) ⌝ }
 {
-    if p.noted {
+    if p.triple {
         RecordCount(3)
     } else {
         RecordCount(2)
@@ -224,9 +220,7 @@ pub(crate) fn check_sum(m: Checker, p: Payment) -> Answer
     ensures { λ r. ⌜ r ≡ firstBroken (sumRule m p ∷ []) ⌝ }
 {
     let first = p.first;
-    let which = first.which;
-    let v = first.fields;
     let paid = Cents(m.closed().cents.0 + m.current().cents.0);
-    let fits = paid.fit_a_file(amount_of(which, v));
+    let fits = paid.fit_a_file(amount_of(first));
     Answer::test(numbers::FILE_SUM, 0, fits)
 }

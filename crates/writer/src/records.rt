@@ -6,65 +6,83 @@ use checker::Checker;
 use checker::LINE_BYTES;
 use checker::places;
 use fields::Fields;
-use layout::Direction;
-use layout::FIELDS;
+use fields::Made;
 use layout::RECORD_BYTES;
-use layout::Record;
 ghost use mathlib.Core.Path.{_≡_};
-ghost use mathlib.Core.Bool.{true};
 ghost use mathlib.Core.List.{_++_};
 ghost use Prim.Native.Nat.{_≤_};
 ghost use lib.ListN.{length, drop};
-ghost use Rattle.answer.specs.Rules.{firstBroken};
-ghost use Rattle.layout.specs.Table.{recordBytes};
-ghost use Rattle.checker.specs.Line.{lineBytes};
-ghost use Rattle.checker.specs.Machine.{sound};
-ghost use Rattle.writer.specs.Given.{given};
-ghost use Rattle.writer.specs.Refusals.{givenRules};
-ghost use Rattle.writer.specs.inner.Steps.{Tries, lineWith};
+ghost use Rattle.answer.specs.declared.Answer.the-variants.{Accepted};
+ghost use Rattle.checker.specs.Line.{lineBytes, lineFrom};
+ghost use Rattle.writer.specs.inner.Steps.{kindAnswer, MayTry, Tries, lineWith};
 
+// The answer, and where it accepts, the state behind the record, which is made.
 pub(crate) struct Tried {
     pub(crate) answer: Answer,
-    pub(crate) machine: Checker,
-    pub(crate) fields: Fields,
+    pub(crate) checker: Checker,
+    pub(crate) made: Made,
 }
 
-// The reader's 4, 11, fields and 16 to 19.
-fn check(due: bool, which: Record, dir: Direction, rec: &[u8]) -> Answer
-    requires { ⌜ length (now rec) ≡ recordBytes ⌝ }
-    ensures { λ r. ⌜ r ≡ firstBroken (givenRules due which dir (now (rec .entry))) ⌝ }
+// The reader's 4, 11 and fields: of a record that is expected they are the check's, of another 4 and 11.
+fn check(expected: bool, made: Made, v: Fields) -> Answer
+    ensures { λ r. ⌜ r ≡ kindAnswer expected made v (v .which) ⌝ }
 {
-    let clean = layout::check_bytes(rec);
-    let kind = Answer::test(numbers::SEGMENT, places::SEGMENT, due);
-    let fields = layout::check_fields(rec, which, dir, 0, FIELDS);
-    let house = checker::check_house(which, rec);
-    clean.and_then(kind.and_then(fields.and_then(house)))
+    if expected {
+        return made.answer();
+    }
+    let clean = fields::check_bytes(v);
+    clean.and_then(Answer::refused(numbers::SEGMENT, places::SEGMENT))
 }
 
-// A record in a state: nothing is written yet.
-pub(crate) fn try_record(m: Checker, due: bool, which: Record, v: Fields) -> Tried
-    requires { ⌜ sound m ≡ true ⌝ }
-    ensures { λ r. ⌜ Tries due m (given which v) r ⌝ }
+// The line of a record that is made.
+fn line_of(made: Made) -> [u8; LINE_BYTES]
+    ensures { λ r. ⌜ r ≡ lineFrom (made .bytes) ⌝ }
 {
-    let fields = fill(m, which, v);
-    let mut rec = [0u8; RECORD_BYTES];
-    fields::put_record(fields, which, &mut rec);
+    let bytes = made.bytes();
+    let mut line = [0u8; LINE_BYTES];
+    layout::copy(&bytes, &mut line[0..RECORD_BYTES]);
+    line[places::CR - 1] = b'\r';
+    line[places::LF - 1] = b'\n';
+    line
+}
+
+// A record in a state: nothing is written yet. The machine reads the line as any other: there is no
+// other way to the state behind it. What it refuses then is what the house asks, 16 to 19.
+pub(crate) fn try_record(m: Checker, expected: bool, v: Fields) -> Tried
+    requires { ⌜ MayTry expected (v .which) m ⌝ }
+    ensures { λ r. ⌜ Tries expected m v r ⌝ }
+{
+    let fields = fill(m, v);
     let dir = m.direction();
-    let answer = check(due, which, dir, &rec).on_line(m.next_line());
-    let machine = m.with_record(which, &rec);
-    Tried {
-        answer,
-        machine,
-        fields,
+    let made = fields::make_record(fields, dir);
+    let right = check(expected, made, fields);
+    match right {
+        Answer::Refused(_) => Tried {
+            answer: right.on_line(m.next_line()),
+            checker: m,
+            made,
+        },
+        Answer::Accepted => {
+            let line = line_of(made);
+            let stepped = m.step(&line);
+            let answer = stepped.answer;
+            let checker = stepped.state;
+            Tried {
+                answer,
+                checker,
+                made,
+            }
+        }
     }
 }
 
-// A record and its line end, over the first bytes of this part of the output.
-pub(crate) fn put_line(v: Fields, which: Record, part: &mut [u8])
+// A record that is right and its line end, over the first bytes of this part of the output.
+pub(crate) fn put_line(made: Made, part: &mut [u8])
+    requires { ⌜ made .answer ≡ Accepted ⌝ }
     requires { ⌜ lineBytes ≤ length (now part) ⌝ }
-    ensures { λ _. ⌜ now (part .exit) ≡ lineWith which v ++ drop lineBytes (now (part .entry)) ⌝ }
+    ensures { λ _. ⌜ now (part .exit) ≡ lineWith made ++ drop lineBytes (now (part .entry)) ⌝ }
 {
-    fields::put_record(v, which, part);
-    part[LINE_BYTES - 2] = b'\r';
-    part[LINE_BYTES - 1] = b'\n';
+    made.put(part);
+    part[places::CR - 1] = b'\r';
+    part[places::LF - 1] = b'\n';
 }

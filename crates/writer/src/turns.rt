@@ -59,7 +59,7 @@ pub(crate) fn turns_at(phase: Phase) -> Turns
             may.payment = true;
             may.trailer = true;
         }
-        Phase::Noted => {
+        Phase::BehindZ => {
             may.payment = true;
             may.trailer = true;
         }

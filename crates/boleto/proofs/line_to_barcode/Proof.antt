@@ -2,15 +2,15 @@
 use borrow.Author.Needs.{needs}
 use Rattle.answer.specs.laws.Frame.{Answers, answers, keeps, input-kept, has-room, writes}
 use Rattle.boleto.specs.Strings.{barcodeDigits}
-use Rattle.boleto.specs.Rules.{lineRules}
+use Rattle.boleto.specs.Rules.{digitLineRules}
 use Rattle.boleto.specs.laws.Accepted.{line-of}
 use Rattle.boleto.specs.laws.Conversions.{barcode-long}
 use Rattle.boleto.proofs.line_to_barcode.Statement.{statement}
 use Rattle.boleto.proofs.line_to_barcode.Tie as tie
 
 answered : (c : tie.After-and-then) → let a = c .before .before .before .before .before .before .args in
-    Answers (lineRules (a .line .now)) barcodeDigits (a .out .now) (c .and-then .result)
-answered c = let r = c .before in answers _ _ (r .before .before .check-line .ensures) (r .room .ensures) (c .and-then .ensures)
+    Answers (digitLineRules (a .line .now)) barcodeDigits (a .out .now) (c .and-then .result)
+answered c = let r = c .before in answers _ _ (r .before .before .check-digit-line .ensures) (r .room .ensures) (c .and-then .ensures)
 
 write-barcode-requires : tie.Need-write-barcode-requires
 write-barcode-requires c κs =

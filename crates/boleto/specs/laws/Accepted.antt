@@ -12,7 +12,7 @@ use Rattle.digits.specs.laws.Strings.{Digits, leading-all, all-leading}
 use Rattle.digits.specs.laws.Seals.{Sealed}
 use Rattle.digits.specs.declared.sealing.Modulus.the-variants.{Ten, Eleven}
 use Rattle.boleto.specs.Strings.{barcodeDigits, lineDigits, barcodeOf}
-use Rattle.boleto.specs.Rules.{headRules, barcodeRules, checkRules, lineRules}
+use Rattle.boleto.specs.Rules.{headRules, barcodeRules, checkRules, digitLineRules}
 
 pub record Barcode (bar : List ℕ) : Type 0 where
   pub long : length bar ≡ barcodeDigits
@@ -50,10 +50,10 @@ of-barcode bar b =
     kept-accepted (barcodeRules bar)
     (eq-eqb _ _ (b .long), (eq-eqb _ _ (all-leading bar (b .digits)), (eq-eqb _ _ (b .currency), (eq-eqb _ _ (b .seal), tt))))
 
-pub line-of : (l : List ℕ) → firstBroken (lineRules l) ≡ Accepted → Line l
-unfolding headRules checkRules lineRules AllKept
+pub line-of : (l : List ℕ) → firstBroken (digitLineRules l) ≡ Accepted → Line l
+unfolding headRules checkRules digitLineRules AllKept
 line-of l e =
-    let k = accepted-kept (lineRules l) e in
+    let k = accepted-kept (digitLineRules l) e in
     let c = k .1 .1 .1 in
     record {
       long = eqb-true _ _ (k .0);
@@ -65,10 +65,10 @@ line-of l e =
       seal = eqb-true _ _ (c .1 .1 .1 .0);
     }
 
-pub of-line : (l : List ℕ) → Line l → firstBroken (lineRules l) ≡ Accepted
-unfolding headRules checkRules lineRules AllKept
+pub of-line : (l : List ℕ) → Line l → firstBroken (digitLineRules l) ≡ Accepted
+unfolding headRules checkRules digitLineRules AllKept
 of-line l b =
-    kept-accepted (lineRules l) (
+    kept-accepted (digitLineRules l) (
       eq-eqb _ _ (b .long),
       (
         eq-eqb _ _ (all-leading l (b .digits)),

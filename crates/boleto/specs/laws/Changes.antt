@@ -16,7 +16,7 @@ use Rattle.digits.specs.laws.Strings.{Digit, Digits, part-set, part-kept, part-
 use Rattle.digits.specs.laws.Seals.{Sealed, one-change, neighbours}
 use Rattle.digits.specs.declared.sealing.Modulus.the-variants.{Ten, Eleven}
 use Rattle.boleto.specs.Strings.{barcodeDigits, lineDigits, barcodeCheck, lineCheck, barcodeOf}
-use Rattle.boleto.specs.Rules.{barcodeRules, lineRules}
+use Rattle.boleto.specs.Rules.{barcodeRules, digitLineRules}
 use Rattle.boleto.specs.Guarded.{GuardedInBarcode, GuardedInLine, all, currency, check, checked, rest}
 use Rattle.boleto.specs.laws.Accepted.{Barcode, Line, barcode-of, line-of}
 use Rattle.boleto.specs.laws.Conversions.{barcode-long}
@@ -114,8 +114,8 @@ sharp-rest l p (checked lo up) = (lo, omega arith, λ h. absurd (omega arith))
 sharp-rest l p (rest f lo up) = (omega arith, up, λ h. f)
 
 -- one byte of an accepted line changed at a guarded place is refused
-pub line-change : (l : List ℕ) (p v : ℕ) → firstBroken (lineRules l) ≡ Accepted → GuardedInLine l p → v ≢ place p l →
-    firstBroken (lineRules (set l (p - 1) v)) ≢ Accepted
+pub line-change : (l : List ℕ) (p v : ℕ) → firstBroken (digitLineRules l) ≡ Accepted → GuardedInLine l p → v ≢ place p l →
+    firstBroken (digitLineRules (set l (p - 1) v)) ≢ Accepted
 line-change l p v e g ne e′ =
     let s = sharp-rest l p g in
     ne (line-same l (p - 1) v (line-of l e) (line-of (set l (p - 1) v) e′) (omega arith) (s .2) (decLt (p - 1) 10) (decLt (p - 1) 21) (decLt (p - 1) 32))

@@ -6,7 +6,7 @@ use native.Mathlib.Omega.{arith}
 use lib.ListN.{length, getD, take}
 use Rattle.answer.specs.Rules.{firstBroken}
 use Rattle.answer.specs.Output.{Writes}
-use Rattle.answer.specs.laws.Frame.{was-accepted, handed-on}
+use Rattle.answer.specs.laws.Frame.{is-accepted, handed-on}
 use Rattle.answer.specs.declared.Answer.{Answer}
 use Rattle.answer.specs.declared.Answer.the-variants.{Accepted}
 use Rattle.digits.specs.Digits.{digitByte, places}
@@ -14,32 +14,32 @@ use Rattle.digits.specs.Checks.{checkDigit}
 use Rattle.digits.specs.laws.Strings.{Digits, tab, spelled-out, digits-nil, digits-cons, digits-append, digits-take, digits-drop}
 use Rattle.digits.specs.laws.Seals.{Sealed, check-small}
 use Rattle.digits.specs.declared.sealing.Modulus.the-variants.{Ten}
-use Rattle.boleto.specs.Strings.{barcodeDigits, lineDigits, lineOf, barcodeOf}
-use Rattle.boleto.specs.Rules.{barcodeRules, lineRules}
+use Rattle.boleto.specs.Strings.{barcodeDigits, lineDigits, digitLineOf, barcodeOf}
+use Rattle.boleto.specs.Rules.{barcodeRules, digitLineRules}
 use Rattle.boleto.specs.laws.Accepted.{Barcode, Line, barcode-of, line-of, of-barcode, of-line}
 
 pub barcode-long : (l : List ℕ) → length l ≡ lineDigits → length (barcodeOf l) ≡ barcodeDigits
 unfolding barcodeOf
 barcode-long l h = rw (spelled-out lineDigits l h)
 
-pub line-long : (bar : List ℕ) → length bar ≡ barcodeDigits → length (lineOf bar) ≡ lineDigits
-unfolding lineOf
+pub line-long : (bar : List ℕ) → length bar ≡ barcodeDigits → length (digitLineOf bar) ≡ lineDigits
+unfolding digitLineOf
 line-long bar h = rw (spelled-out barcodeDigits bar h)
 
-barcode-back : (bar : List ℕ) → length bar ≡ barcodeDigits → barcodeOf (lineOf bar) ≡ bar
-unfolding lineOf barcodeOf
+barcode-back : (bar : List ℕ) → length bar ≡ barcodeDigits → barcodeOf (digitLineOf bar) ≡ bar
+unfolding digitLineOf barcodeOf
 barcode-back bar h = rw (spelled-out barcodeDigits bar h)
 
 -- a line's three fields are sealed
 abbrev Fields : List ℕ → Type 0
 Fields l = Sealed Ten 9 (places 1 10 l) × Sealed Ten 10 (places 11 21 l) × Sealed Ten 10 (places 22 32 l)
 
-written-out : (f : ℕ → ℕ) → Fields (tab lineDigits f) → lineOf (barcodeOf (tab lineDigits f)) ≡ tab lineDigits f
-unfolding lineOf barcodeOf
+written-out : (f : ℕ → ℕ) → Fields (tab lineDigits f) → digitLineOf (barcodeOf (tab lineDigits f)) ≡ tab lineDigits f
+unfolding digitLineOf barcodeOf
 written-out f s = rw (← (s .0), ← (s .1), ← (s .2))
 
-line-back : (l : List ℕ) → length l ≡ lineDigits → Fields l → lineOf (barcodeOf l) ≡ l
-line-back l h = subst (λ (l : List ℕ). Fields l → lineOf (barcodeOf l) ≡ l) (sym (spelled-out lineDigits l h)) (written-out (λ i. getD l i 0))
+line-back : (l : List ℕ) → length l ≡ lineDigits → Fields l → digitLineOf (barcodeOf l) ≡ l
+line-back l h = subst (λ (l : List ℕ). Fields l → digitLineOf (barcodeOf l) ≡ l) (sym (spelled-out lineDigits l h)) (written-out (λ i. getD l i 0))
 
 barcode-digits : (l : List ℕ) → Digits l → Digits (barcodeOf l)
 unfolding barcodeOf
@@ -48,12 +48,12 @@ barcode-digits l ds = search (digits-append, digits-take, digits-drop) depth 8
 check-digits : (bs : List ℕ) → Digits (digitByte (checkDigit Ten bs) ∷ [])
 check-digits bs = let s = check-small Ten bs in digits-cons (omega arith) digits-nil
 
-line-digits : (bar : List ℕ) → Digits bar → Digits (lineOf bar)
-unfolding lineOf
+line-digits : (bar : List ℕ) → Digits bar → Digits (digitLineOf bar)
+unfolding digitLineOf
 line-digits bar ds = search (digits-append, digits-take, digits-drop, check-digits) depth 9
 
-line-of-barcode : (bar : List ℕ) → Barcode bar → Line (lineOf bar)
-unfolding lineOf
+line-of-barcode : (bar : List ℕ) → Barcode bar → Line (digitLineOf bar)
+unfolding digitLineOf
 line-of-barcode bar b =
     let written = spelled-out barcodeDigits bar (b .long) in
     record {
@@ -78,39 +78,42 @@ barcode-of-line l a =
 
 -- an accepted barcode's line is accepted, and its barcode is that barcode
 pub barcode-there-and-back : (bar : List ℕ) → firstBroken (barcodeRules bar) ≡ Accepted →
-    (firstBroken (lineRules (lineOf bar)) ≡ Accepted) × (barcodeOf (lineOf bar) ≡ bar)
-barcode-there-and-back bar e = let b = barcode-of bar e in (of-line (lineOf bar) (line-of-barcode bar b), barcode-back bar (b .long))
+    (firstBroken (digitLineRules (digitLineOf bar)) ≡ Accepted) × (barcodeOf (digitLineOf bar) ≡ bar)
+barcode-there-and-back bar e = let b = barcode-of bar e in (of-line (digitLineOf bar) (line-of-barcode bar b), barcode-back bar (b .long))
 
 -- an accepted line's barcode is accepted, and its line is that line
-pub line-there-and-back : (l : List ℕ) → firstBroken (lineRules l) ≡ Accepted →
-    (firstBroken (barcodeRules (barcodeOf l)) ≡ Accepted) × (lineOf (barcodeOf l) ≡ l)
+pub line-there-and-back : (l : List ℕ) → firstBroken (digitLineRules l) ≡ Accepted →
+    (firstBroken (barcodeRules (barcodeOf l)) ≡ Accepted) × (digitLineOf (barcodeOf l) ≡ l)
 line-there-and-back l e =
     let a = line-of l e in
     (of-barcode (barcodeOf l) (barcode-of-line l a), line-back l (a .long) (a .first, a .second, a .third))
 
--- ---- the same of the calls, whatever memory they are lent
+-- ---- the same of the calls, whatever memory with room they are lent
 
--- a barcode turned into a line, and what was written turned into a barcode: accepted, and the same digits
-pub barcode-calls : (bar : List ℕ) {out out′ after after′ : List ℕ} {a : Answer} → barcodeDigits ≤ length out′ →
+-- a barcode whose rules are kept is accepted; the line that it left is accepted, and leaves that barcode
+pub barcode-calls : (bar : List ℕ) {out out′ after after′ : List ℕ} {a b : Answer} →
+    firstBroken (barcodeRules bar) ≡ Accepted → lineDigits ≤ length out → barcodeDigits ≤ length out′ →
     let line = take lineDigits after in
-    Writes (barcodeRules bar) lineDigits (lineOf bar) out Accepted after →
-    Writes (lineRules line) barcodeDigits (barcodeOf line) out′ a after′ →
-    (a ≡ Accepted) × (take barcodeDigits after′ ≡ bar)
-barcode-calls bar room there back =
-    let e = was-accepted there in
-    let long = barcode-of bar e .long in
+    Writes (barcodeRules bar) lineDigits (digitLineOf bar) out a after →
+    Writes (digitLineRules line) barcodeDigits (barcodeOf line) out′ b after′ →
+    (a ≡ Accepted) × (b ≡ Accepted) × (take barcodeDigits after′ ≡ bar)
+barcode-calls bar e room room′ there back =
+    let ok = is-accepted e room there in
+    let long = line-long bar (barcode-of bar e .long) in
     let t = barcode-there-and-back bar e in
-    let r = handed-on lineRules barcodeOf (line-long bar long) (t .0) (barcode-long (lineOf bar) (line-long bar long)) room there back in
-    (r .0, r .1 ∙ t .1)
+    let r = handed-on digitLineRules barcodeOf long (t .0) (barcode-long (digitLineOf bar) long) room′ (rw ok at there) back in
+    (ok, r .0, r .1 ∙ t .1)
 
-pub line-calls : (l : List ℕ) {out out′ after after′ : List ℕ} {a : Answer} → lineDigits ≤ length out′ →
+-- a line whose rules are kept is accepted; the barcode that it left is accepted, and leaves that line
+pub line-calls : (l : List ℕ) {out out′ after after′ : List ℕ} {a b : Answer} →
+    firstBroken (digitLineRules l) ≡ Accepted → barcodeDigits ≤ length out → lineDigits ≤ length out′ →
     let bar = take barcodeDigits after in
-    Writes (lineRules l) barcodeDigits (barcodeOf l) out Accepted after →
-    Writes (barcodeRules bar) lineDigits (lineOf bar) out′ a after′ →
-    (a ≡ Accepted) × (take lineDigits after′ ≡ l)
-line-calls l room there back =
-    let e = was-accepted there in
-    let long = line-of l e .long in
+    Writes (digitLineRules l) barcodeDigits (barcodeOf l) out a after →
+    Writes (barcodeRules bar) lineDigits (digitLineOf bar) out′ b after′ →
+    (a ≡ Accepted) × (b ≡ Accepted) × (take lineDigits after′ ≡ l)
+line-calls l e room room′ there back =
+    let ok = is-accepted e room there in
+    let long = barcode-long l (line-of l e .long) in
     let t = line-there-and-back l e in
-    let r = handed-on barcodeRules lineOf (barcode-long l long) (t .0) (line-long (barcodeOf l) (barcode-long l long)) room there back in
-    (r .0, r .1 ∙ t .1)
+    let r = handed-on barcodeRules digitLineOf long (t .0) (line-long (barcodeOf l) long) room′ (rw ok at there) back in
+    (ok, r .0, r .1 ∙ t .1)

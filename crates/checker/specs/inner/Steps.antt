@@ -5,6 +5,8 @@ use lib.Dec.{leb, eqb}
 use Prim.Native.Nat.{ℕ, _+_, _*_, _≤_, _<_, _^_}
 use Rattle.answer.specs.Limits.{fileCents}
 use Rattle.answer.specs.Rules.{Rule, rule}
+use Rattle.digits.specs.Numbers.{numberOf}
+use Rattle.calendar.specs.Calendar.{numberFits}
 use Rattle.layout.specs.Table.{numberField, segmentFields, segmentPlace}
 use Rattle.layout.specs.Record.{rulesOf}
 use Rattle.layout.specs.declared.Direction.{Direction}
@@ -15,10 +17,10 @@ use Rattle.checker.specs.Order.{readAs}
 use Rattle.checker.specs.Totals.{paymentsOf}
 use Rattle.checker.specs.Line.{reads, bank, batchNumber, ordinal, mostBatches, mostPayments}
 use Rattle.checker.specs.Machine.{batchRecordsMost, batchCentsMost}
-use Rattle.checker.specs.declared.order.Due.{Due}
-use Rattle.checker.specs.declared.order.Due.the-variants.{Line, Nothing}
+use Rattle.checker.specs.declared.order.Reading.{Reading}
+use Rattle.checker.specs.declared.order.Reading.the-variants.{Line, Nothing}
 use Rattle.checker.specs.declared.order.Phase.{Phase}
-use Rattle.checker.specs.declared.order.Phase.the-variants.{Start, Headed, Opened, Begun, Paid, Noted, Closed, Ended}
+use Rattle.checker.specs.declared.order.Phase.the-variants.{Start, Headed, Opened, Begun, Paid, BehindZ, Closed, Ended}
 use Rattle.checker.specs.declared.totals.Totals.{Totals}
 use Rattle.checker.specs.declared.Checker.{Checker}
 
@@ -27,18 +29,18 @@ isReturn Remittance = false
 isReturn Return = true
 
 -- the first of records
-abbrev pub dueOf : List Record → Due
-dueOf [] = Nothing
-dueOf (r ∷ rs) = Line r
+abbrev pub readingOf : List Record → Reading
+readingOf [] = Nothing
+readingOf (r ∷ rs) = Line r
 
 -- what a line is read as that is no detail
-abbrev pub endAs : Phase → ℕ → Due
+abbrev pub endAs : Phase → ℕ → Reading
 endAs Start type = readAs type 0 (FileHeader ∷ [])
 endAs Headed type = readAs type 0 (BatchHeader ∷ [])
 endAs Opened type = Nothing
 endAs Begun type = Nothing
 endAs Paid type = readAs type 0 (BatchTrailer ∷ [])
-endAs Noted type = readAs type 0 (BatchTrailer ∷ [])
+endAs BehindZ type = readAs type 0 (BatchTrailer ∷ [])
 endAs Closed type = readAs type 0 (BatchHeader ∷ FileTrailer ∷ [])
 endAs Ended type = Nothing
 
@@ -64,6 +66,10 @@ segmentFits SegmentJ52 b = eqb b 74
 segmentFits SegmentZ b = eqb b 90
 segmentFits BatchTrailer b = true
 segmentFits FileTrailer b = true
+
+-- the rule that digits give the number k
+abbrev pub digitsRead : ℕ → ℕ → ℕ → List ℕ → Rule
+digitsRead number place k bytes = rule number place (numberFits (λ n. eqb n k) (numberOf bytes))
 
 -- the rules of a detail up to 20
 abbrev pub detailHead : Record → Checker → List ℕ → List Rule

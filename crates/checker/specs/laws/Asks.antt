@@ -10,8 +10,8 @@ use borrow.Author.Tests.{eqb-true, eq-eqb, leb-true, ltb-true, le-leb, lt-ltb}
 use lib.Dec.{leb, ltb, eqb, lit≤}
 use lib.ListN.{length, getD, take, drop}
 use Rattle.answer.specs.Limits.{fileCents}
-use Rattle.answer.specs.Rules.{Rule, rule, AllKept}
-use Rattle.answer.specs.laws.Order.{never, none-kept, more-kept, kept-front, kept-behind, kept-join}
+use Rattle.answer.specs.Rules.{Rule, rule, firstBroken, AllKept}
+use Rattle.answer.specs.laws.Order.{never, none-kept, more-kept, kept-accepted, gone-on, kept-front, kept-behind, kept-join}
 use Rattle.digits.specs.Digits.{allDigits, digitByte, place, places}
 use Rattle.digits.specs.Numbers.{numberOf}
 use Rattle.digits.specs.laws.Strings.{all-leading, part-getD}
@@ -29,7 +29,7 @@ use Rattle.layout.specs.declared.Record.the-variants.{FileHeader, BatchHeader, 
 use Rattle.layout.specs.declared.pairs.Batch.{Batch}
 use Rattle.checker.specs.Totals.{paymentsOf}
 use Rattle.checker.specs.Line.{bank, batchNumber, ordinal, mostPayments, headerBatch, trailerBatch, reads, within, behind, between, houseRules, detailRules, rulesAs, lineIs}
-use Rattle.checker.specs.declared.order.Due.the-variants.{Line}
+use Rattle.checker.specs.declared.order.Reading.the-variants.{Line}
 use Rattle.checker.specs.declared.Checker.{Checker}
 use Rattle.checker.specs.laws.Edges.{Begins, by-A, by-J, Follows, read-by}
 use Rattle.checker.specs.laws.Details.{inDetail, asked, AllRead, Limit, line-first, Detail, detail-of}
@@ -102,16 +102,16 @@ module _ (r : Record) (d : Direction) (rec : List ℕ) (k : AllKept (rulesOf (fi
   marks-kept o = rw (o .marked) (numbered o (o .marked) .1 .0, tt)
 
 -- what may follow and has right fields is read as it is: Z by its letter, and what begins a payment has another
-not-noted : {b : Batch} {r : Record} (d : Direction) (rec : List ℕ) → AllKept (rulesOf (fieldsOf r) d rec) → Begins b r → place segmentPlace rec ≡ 90 → ⊥
-not-noted d rec k by-A e = omega (arith, letter-at SegmentA d rec k refl refl)
-not-noted d rec k by-J e = omega (arith, letter-at SegmentJ d rec k refl refl)
+not-z : {b : Batch} {r : Record} (d : Direction) (rec : List ℕ) → AllKept (rulesOf (fieldsOf r) d rec) → Begins b r → place segmentPlace rec ≡ 90 → ⊥
+not-z d rec k by-A e = omega (arith, letter-at SegmentA d rec k refl refl)
+not-z d rec k by-J e = omega (arith, letter-at SegmentJ d rec k refl refl)
 
 pub read-right : (s : Checker) (rec : List ℕ) {r : Record} → Follows (s .dir) (s .batch) (s .phase) r → AllKept (rulesOf (fieldsOf r) (s .dir) rec)
     → lineIs s rec ≡ Line r
 read-right s rec {r} f k =
     read-by s rec f (type-at r (s .dir) rec k)
     (λ e. letter-at SegmentZ (s .dir) rec (subst (λ (x : Record). AllKept (rulesOf (fieldsOf x) (s .dir) rec)) e k) refl refl)
-    (not-noted (s .dir) rec k)
+    (not-z (s .dir) rec k)
 
 -- ---- the rules of a record
 
@@ -169,17 +169,33 @@ module _ (s : Checker) (rec : List ℕ) where
           limit = o .limits s .0 (leb-true _ _ (later .0));
         }
 
-    detail-kept : Body r s rec → AllKept (rulesAs r s rec)
-    unfolding AllRead detailRules
-    detail-kept b =
-        let marks = marks-kept r (s .dir) rec (b .fields) o in
-        let n : AllRead (inDetail s) rec = rw (o .asks s) at (b .numbers) in
-        rw (o .rules)
-        (kept-join _ _
-        (kept-join _ _
+    -- the rules before the house's
+    abbrev front : List Rule
+    front =
+        bank s rec
+        ∷ batchNumber (ordinal s) rec
+        ∷ reads 10 numberField (s .current .records .0) rec
+        ∷ rulesOf (segmentFields r) (s .dir) rec
+        ++ rule 20 segmentPlace (leb (s .current .payments + paymentsOf r) mostPayments)
+        ∷ rulesOf (behind segmentPlace r) (s .dir) rec
+
+    front-kept : AllKept (rulesOf (fieldsOf r) (s .dir) rec) → AllRead (asked r s) rec → Limit r s → AllKept front
+    unfolding AllRead
+    front-kept fields numbers limit =
+        let marks = marks-kept r (s .dir) rec fields o in
+        let n : AllRead (inDetail s) rec = rw (o .asks s) at numbers in
+        kept-join _ _
         (ahead _ _ (n .0) (n .1 .0) (more-kept _ _ (read-is numberField _ (n .1 .1 .0)) marks))
-        (more-kept _ _ (le-leb _ _ (o .limits s .1 (b .limit))) (some-kept r _ _ (b .fields))))
-        (b .house))
+        (more-kept _ _ (le-leb _ _ (o .limits s .1 limit)) (some-kept r _ _ fields))
+
+    detail-kept : Body r s rec → AllKept (rulesAs r s rec)
+    unfolding detailRules
+    detail-kept b = rw (o .rules) (kept-join front (houseRules r rec) (front-kept (b .fields) (b .numbers) (b .limit)) (b .house))
+
+    detail-answers : AllKept (rulesOf (fieldsOf r) (s .dir) rec) → AllRead (asked r s) rec → Limit r s
+        → firstBroken (rulesAs r s rec) ≡ firstBroken (houseRules r rec)
+    unfolding detailRules
+    detail-answers fields numbers limit = rw (o .rules) (sym (gone-on front (houseRules r rec) (kept-accepted front (front-kept fields numbers limit))))
 
   -- ---- each record
 
@@ -269,3 +285,20 @@ module _ (s : Checker) (rec : List ℕ) where
       (ahead _ _ (n .0) (n .1 .0) (some _ _))
       (more-kept _ _ (read-is fileBatches _ (n .1 .1 .0)) (some _ _)))
       (more-kept _ _ (read-is fileRecords _ (n .1 .1 .1 .0)) (some _ _))
+
+  -- beside the house rules all is right: then the house answers
+  plain : (r : Record) → AllKept (rulesOf (fieldsOf r) (s .dir) rec) → AllRead (asked r s) rec → Limit r s → AllKept (houseRules r rec)
+      → firstBroken (rulesAs r s rec) ≡ firstBroken (houseRules r rec)
+  plain r f n l h = kept-accepted _ (record-kept r (record { fields = f; house = h; numbers = n; limit = l })) ∙ sym (kept-accepted _ h)
+
+  pub record-answers : (r : Record) → AllKept (rulesOf (fieldsOf r) (s .dir) rec) → AllRead (asked r s) rec → Limit r s
+      → firstBroken (rulesAs r s rec) ≡ firstBroken (houseRules r rec)
+  record-answers FileHeader f n l = plain FileHeader f n l none-kept
+  record-answers BatchHeader f n l = plain BatchHeader f n l none-kept
+  record-answers SegmentA f n l = detail-answers SegmentA (detail-of SegmentA refl) f n l
+  record-answers SegmentB f n l = detail-answers SegmentB (detail-of SegmentB refl) f n l
+  record-answers SegmentJ f n l = detail-answers SegmentJ (detail-of SegmentJ refl) f n l
+  record-answers SegmentJ52 f n l = detail-answers SegmentJ52 (detail-of SegmentJ52 refl) f n l
+  record-answers SegmentZ f n l = detail-answers SegmentZ (detail-of SegmentZ refl) f n l
+  record-answers BatchTrailer f n l = plain BatchTrailer f n l none-kept
+  record-answers FileTrailer f n l = plain FileTrailer f n l none-kept

@@ -16,7 +16,7 @@ use Rattle.checker.specs.Totals.{batchesOf, paymentsOf}
 use Rattle.checker.specs.Line.{ordinal, mostBatches, mostPayments, headerBatch, trailerBatch, within, behind, detailRules, rulesAs}
 use Rattle.checker.specs.Machine.{inBatch, next}
 use Rattle.checker.specs.declared.order.Phase.{Phase}
-use Rattle.checker.specs.declared.order.Phase.the-variants.{Begun, Paid, Noted}
+use Rattle.checker.specs.declared.order.Phase.the-variants.{Begun, Paid, BehindZ}
 use Rattle.checker.specs.declared.Checker.{Checker}
 
 -- ---- what is asked
@@ -77,7 +77,7 @@ line-first FileTrailer = refl
 pub data Open : Phase → Type 0 where
   at-begun : Open Begun
   at-paid : Open Paid
-  at-noted : Open Noted
+  at-behind-z : Open BehindZ
 
 -- a detail: its fields go on with its number and its letter; what it asks; and the state behind it
 pub record Detail (r : Record) : Type 0 where
@@ -107,6 +107,6 @@ detail-of SegmentJ e =
 detail-of SegmentJ52 e =
     record { begun = refl; letter = _; marked = refl; rules = refl; asks = λ s. refl; limits = λ s. same; opens = refl; moves = λ s rec. refl; stays = at-paid }
 detail-of SegmentZ e =
-    record { begun = refl; letter = _; marked = refl; rules = refl; asks = λ s. refl; limits = λ s. same; opens = refl; moves = λ s rec. refl; stays = at-noted }
+    record { begun = refl; letter = _; marked = refl; rules = refl; asks = λ s. refl; limits = λ s. same; opens = refl; moves = λ s rec. refl; stays = at-behind-z }
 detail-of BatchTrailer e = absurd (omega arith)
 detail-of FileTrailer e = absurd (omega arith)

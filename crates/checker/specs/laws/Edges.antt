@@ -19,10 +19,10 @@ use Rattle.layout.specs.declared.pairs.Batch.the-variants.{Credit, Boleto, Unkn
 use Rattle.checker.specs.Order.{first, second, follows, ended, optional, suits, readAs}
 use Rattle.checker.specs.Line.{lineIs, found}
 use Rattle.checker.specs.Machine.{next}
-use Rattle.checker.specs.declared.order.Due.{Due}
-use Rattle.checker.specs.declared.order.Due.the-variants.{Line}
+use Rattle.checker.specs.declared.order.Reading.{Reading}
+use Rattle.checker.specs.declared.order.Reading.the-variants.{Line}
 use Rattle.checker.specs.declared.order.Phase.{Phase}
-use Rattle.checker.specs.declared.order.Phase.the-variants.{Start, Headed, Opened, Begun, Paid, Noted, Closed, Ended}
+use Rattle.checker.specs.declared.order.Phase.the-variants.{Start, Headed, Opened, Begun, Paid, BehindZ, Closed, Ended}
 use Rattle.checker.specs.declared.Checker.{Checker}
 
 -- the first record of a payment, and the second
@@ -39,11 +39,11 @@ pub data Follows (d : Direction) (b : Batch) : Phase → Record → Type 0 where
   first-batch : Follows d b Headed BatchHeader
   first-payment : {r : Record} → Begins b r → Follows d b Opened r
   goes-on : {r : Record} → GoesOn b r → Follows d b Begun r
-  notes : d ≡ Return → Follows d b Paid SegmentZ
+  adds-z : d ≡ Return → Follows d b Paid SegmentZ
   pays-behind : {r : Record} → Begins b r → Follows d b Paid r
-  pays-noted : {r : Record} → Begins b r → Follows d b Noted r
+  pays-behind-z : {r : Record} → Begins b r → Follows d b BehindZ r
   closes-paid : Follows d b Paid BatchTrailer
-  closes-noted : Follows d b Noted BatchTrailer
+  closes-behind-z : Follows d b BehindZ BatchTrailer
   next-batch : Follows d b Closed BatchHeader
   ends : Follows d b Closed FileTrailer
 
@@ -74,12 +74,12 @@ each-follows Begun d Unknown = tt
 each-follows Paid Remittance Credit = (pays-behind by-A, (closes-paid, tt))
 each-follows Paid Remittance Boleto = (pays-behind by-J, (closes-paid, tt))
 each-follows Paid Remittance Unknown = (closes-paid, tt)
-each-follows Paid Return Credit = (notes refl, (pays-behind by-A, (closes-paid, tt)))
-each-follows Paid Return Boleto = (notes refl, (pays-behind by-J, (closes-paid, tt)))
-each-follows Paid Return Unknown = (notes refl, (closes-paid, tt))
-each-follows Noted d Credit = (pays-noted by-A, (closes-noted, tt))
-each-follows Noted d Boleto = (pays-noted by-J, (closes-noted, tt))
-each-follows Noted d Unknown = (closes-noted, tt)
+each-follows Paid Return Credit = (adds-z refl, (pays-behind by-A, (closes-paid, tt)))
+each-follows Paid Return Boleto = (adds-z refl, (pays-behind by-J, (closes-paid, tt)))
+each-follows Paid Return Unknown = (adds-z refl, (closes-paid, tt))
+each-follows BehindZ d Credit = (pays-behind-z by-A, (closes-behind-z, tt))
+each-follows BehindZ d Boleto = (pays-behind-z by-J, (closes-behind-z, tt))
+each-follows BehindZ d Unknown = (closes-behind-z, tt)
 each-follows Closed d b = (next-batch, (ends, tt))
 each-follows Ended d b = tt
 
@@ -116,15 +116,15 @@ module _ (s : Checker) (rec : List ℕ) {r : Record} (e : lineIs s rec ≡ Line 
       go Opened e = refl
       go Begun e = refl
       go Paid e = refl
-      go Noted e = refl
+      go BehindZ e = refl
       go Closed e = refl
       go Ended e = never (ap found e)
 
 -- ---- and what follows is read so, by its type and its letter
 
--- where a note may stand, another letter or another type is none
-no-note : (type segment : ℕ) (later : Due) → (segment ≡ 90 → type ≡ typeOf SegmentZ → ⊥) → cond (suits type segment SegmentZ) (Line SegmentZ) later ≡ later
-no-note type segment later n = go (eqb segment 90) (eqb type (typeOf SegmentZ)) refl refl
+-- where a Z may stand, another letter or another type is none
+no-z : (type segment : ℕ) (later : Reading) → (segment ≡ 90 → type ≡ typeOf SegmentZ → ⊥) → cond (suits type segment SegmentZ) (Line SegmentZ) later ≡ later
+no-z type segment later n = go (eqb segment 90) (eqb type (typeOf SegmentZ)) refl refl
   where
     go : (a b : Bool) → eqb segment 90 ≡ a → eqb type (typeOf SegmentZ) ≡ b → cond (a && b) (Line SegmentZ) later ≡ later
     go true true p q = absurd (n (eqb-true _ _ p) (eqb-true _ _ q))
@@ -149,11 +149,11 @@ module _ (type segment : ℕ) where
   closes-last Boleto e = rw e
   closes-last Unknown e = rw e
 
-  -- behind a payment, what is no note is read as if none could stand there
-  no-note-there : (d : Direction) (b : Batch) → (segment ≡ 90 → type ≡ typeOf SegmentZ → ⊥)
+  -- behind a payment, what is no Z is read as if none could stand there
+  no-z-there : (d : Direction) (b : Batch) → (segment ≡ 90 → type ≡ typeOf SegmentZ → ⊥)
       → readAs type segment (follows Paid d b) ≡ readAs type segment (first b ++ BatchTrailer ∷ [])
-  no-note-there Remittance b n = refl
-  no-note-there Return b n = no-note type segment _ n
+  no-z-there Remittance b n = refl
+  no-z-there Return b n = no-z type segment _ n
 
   reads-as : (p : Phase) (d : Direction) (b : Batch) {r : Record} → Follows d b p r → type ≡ typeOf r → (r ≡ SegmentZ → segment ≡ 90)
       → (Begins b r → segment ≡ 90 → ⊥) → readAs type segment (follows p d b) ≡ Line r
@@ -161,11 +161,11 @@ module _ (type segment : ℕ) where
   reads-as Headed d b first-batch e z f = rw e
   reads-as Opened d b (first-payment g) e z f = opens-first b g e
   reads-as Begun d b (goes-on g) e z f = goes-second b g e
-  reads-as Paid d b (notes q) e z f = rw (q, e, z refl)
-  reads-as Paid d b (pays-behind g) e z f = no-note-there d b (λ letter same. f g letter) ∙ begins-first b _ g e
-  reads-as Paid d b closes-paid e z f = no-note-there d b (λ letter same. omega arith) ∙ closes-last b e
-  reads-as Noted d b (pays-noted g) e z f = begins-first b _ g e
-  reads-as Noted d b closes-noted e z f = closes-last b e
+  reads-as Paid d b (adds-z q) e z f = rw (q, e, z refl)
+  reads-as Paid d b (pays-behind g) e z f = no-z-there d b (λ letter same. f g letter) ∙ begins-first b _ g e
+  reads-as Paid d b closes-paid e z f = no-z-there d b (λ letter same. omega arith) ∙ closes-last b e
+  reads-as BehindZ d b (pays-behind-z g) e z f = begins-first b _ g e
+  reads-as BehindZ d b closes-behind-z e z f = closes-last b e
   reads-as Closed d b next-batch e z f = rw e
   reads-as Closed d b ends e z f = rw e
 

@@ -17,10 +17,10 @@ use Rattle.checker.specs.Line.{mostBatches, mostPayments, recordIn}
 use Rattle.checker.specs.Machine.{start, next, batchRecordsMost, stepOf}
 use Rattle.checker.specs.inner.Steps.{Bounded}
 use Rattle.checker.specs.declared.order.Phase.{Phase}
-use Rattle.checker.specs.declared.order.Phase.the-variants.{Start, Headed, Opened, Begun, Paid, Noted, Closed, Ended}
+use Rattle.checker.specs.declared.order.Phase.the-variants.{Start, Headed, Opened, Begun, Paid, BehindZ, Closed, Ended}
 use Rattle.checker.specs.declared.Checker.{Checker}
 use Rattle.checker.specs.laws.Bounds.{small}
-use Rattle.checker.specs.laws.Edges.{by-A, by-J, by-B, by-J52, Follows, heads, first-batch, first-payment, goes-on, notes, pays-behind, pays-noted, closes-paid, closes-noted, next-batch, ends, follows-by, type-read}
+use Rattle.checker.specs.laws.Edges.{by-A, by-J, by-B, by-J52, Follows, heads, first-batch, first-payment, goes-on, adds-z, pays-behind, pays-behind-z, closes-paid, closes-behind-z, next-batch, ends, follows-by, type-read}
 use Rattle.checker.specs.laws.Meaning.{refused-leaves, accepted-moves}
 use Rattle.checker.specs.laws.Details.{Limit}
 use Rattle.checker.specs.laws.Asks.{record-fits}
@@ -42,7 +42,7 @@ stage Headed = at 1 0 0
 stage Opened = at 1 1 0
 stage Begun = at 1 1 2
 stage Paid = at 1 1 1
-stage Noted = at 1 1 0
+stage BehindZ = at 1 1 0
 stage Closed = at 1 0 0
 stage Ended = at 2 0 0
 
@@ -69,7 +69,7 @@ stage-small Headed = omega arith
 stage-small Opened = omega arith
 stage-small Begun = omega arith
 stage-small Paid = omega arith
-stage-small Noted = omega arith
+stage-small BehindZ = omega arith
 stage-small Closed = omega arith
 stage-small Ended = omega arith
 
@@ -87,13 +87,13 @@ module _ (s : Checker) (rec : List ℕ) where
   kept-by (first-payment by-J) m h = omega (arith, small SegmentJ rec)
   kept-by (goes-on by-B) m h = omega arith
   kept-by (goes-on by-J52) m h = omega arith
-  kept-by (notes e) m h = omega arith
+  kept-by (adds-z e) m h = omega arith
   kept-by (pays-behind by-A) m h = omega (arith, small SegmentA rec)
   kept-by (pays-behind by-J) m h = omega (arith, small SegmentJ rec)
-  kept-by (pays-noted by-A) m h = omega (arith, small SegmentA rec)
-  kept-by (pays-noted by-J) m h = omega (arith, small SegmentJ rec)
+  kept-by (pays-behind-z by-A) m h = omega (arith, small SegmentA rec)
+  kept-by (pays-behind-z by-J) m h = omega (arith, small SegmentJ rec)
   kept-by closes-paid m h = omega arith
-  kept-by closes-noted m h = omega arith
+  kept-by closes-behind-z m h = omega arith
   kept-by next-batch m h = omega arith
   kept-by ends m h = omega arith
 

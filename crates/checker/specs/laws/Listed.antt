@@ -14,9 +14,9 @@ use Rattle.layout.specs.declared.Direction.{Direction}
 use Rattle.layout.specs.declared.Direction.the-variants.{Remittance, Return}
 use Rattle.layout.specs.declared.Record.{Record}
 use Rattle.layout.specs.declared.Record.the-variants.{FileHeader, BatchHeader, SegmentA, SegmentB, SegmentJ, SegmentJ52, SegmentZ, BatchTrailer, FileTrailer}
-use Rattle.checker.specs.Line.{behind, between, houseRules, boletoRules, detailRules, rulesAs, dueRules, lineIs, typeRules, lineRules, rulesOfLine, recordIn}
-use Rattle.checker.specs.declared.order.Due.{Due}
-use Rattle.checker.specs.declared.order.Due.the-variants.{Line, Nothing}
+use Rattle.checker.specs.Line.{behind, between, houseRules, boletoRules, detailRules, rulesAs, readingRules, lineIs, typeRules, lineRules, rulesOfLine, recordIn}
+use Rattle.checker.specs.declared.order.Reading.{Reading}
+use Rattle.checker.specs.declared.order.Reading.the-variants.{Line, Nothing}
 use Rattle.checker.specs.declared.Checker.{Checker}
 
 -- the highest number that a line is refused with
@@ -57,7 +57,7 @@ kind Zeros p = one tt
 kind (Exact bs) p = one tt
 kind (OneOf domain) p = one tt
 kind Service p = one tt
-kind Form p = one tt
+kind Form p = none
 kind Barcode p = more tt (one tt)
 kind (RecordType b) p = one tt
 kind (Segment b) p = one tt
@@ -104,13 +104,13 @@ read FileTrailer s rec =
     (more tt (fields (between (fileBatches .to) (fileRecords .to) FileTrailer) (s .dir) rec)))
     (more tt (fields (behind (fileRecords .to) FileTrailer) (s .dir) rec))
 
-due : (d : Due) (s : Checker) (rec : List ℕ) → Listed (dueRules d s rec)
-due (Line r) s rec = read r s rec
-due Nothing s rec = none
+reading : (d : Reading) (s : Checker) (rec : List ℕ) → Listed (readingRules d s rec)
+reading (Line r) s rec = read r s rec
+reading Nothing s rec = none
 
 pub line-listed : (s : Checker) (line : List ℕ) → Listed (rulesOfLine s line)
 unfolding rulesOfLine lineRules typeRules
-line-listed s line = more tt (more tt (more tt (more tt (more tt (more tt (due (lineIs s (recordIn line)) s (recordIn line)))))))
+line-listed s line = more tt (more tt (more tt (more tt (more tt (more tt (reading (lineIs s (recordIn line)) s (recordIn line)))))))
 
 -- ---- what that says of a broken one
 

@@ -7,7 +7,7 @@ use Prim.Native.Nat.{ℕ}
 use borrow.Author.Tests.{eqb-true, eq-eqb}
 use lib.ListN.{length}
 use Rattle.answer.specs.Rules.{noLine, refusal, refusedAs, firstBroken, AllKept, Broken, onLine}
-use Rattle.answer.specs.laws.Order.{never, never-refused, kept-accepted, accepted-kept, broken-refused, refused-broken}
+use Rattle.answer.specs.laws.Order.{never, never-refused, kept-accepted, accepted-kept, broken-refused, refused-broken, past}
 use Rattle.answer.specs.declared.LineNo.{LineNo}
 use Rattle.answer.specs.declared.Refusal.{Refusal}
 use Rattle.answer.specs.declared.Answer.{Answer}
@@ -17,10 +17,10 @@ use Rattle.layout.specs.Record.{allPrintable}
 use Rattle.layout.specs.declared.Record.{Record}
 use Rattle.layout.specs.declared.Record.the-variants.{FileHeader, BatchHeader, SegmentA, SegmentB, SegmentJ, SegmentJ52, SegmentZ, BatchTrailer, FileTrailer}
 use Rattle.checker.specs.Order.{follows, after, ended}
-use Rattle.checker.specs.Line.{lineBytes, recordIn, lineIs, rulesAs, found, dueRules, typeRules, lineRules, rulesOfLine}
+use Rattle.checker.specs.Line.{lineBytes, recordIn, lineIs, rulesAs, found, readingRules, typeRules, lineRules, rulesOfLine}
 use Rattle.checker.specs.Machine.{lineOf, next, moved, sound, stepped, answerTo, stepOf}
-use Rattle.checker.specs.declared.order.Due.{Due}
-use Rattle.checker.specs.declared.order.Due.the-variants.{Line, Nothing}
+use Rattle.checker.specs.declared.order.Reading.{Reading}
+use Rattle.checker.specs.declared.order.Reading.the-variants.{Line, Nothing}
 use Rattle.checker.specs.declared.Checker.{Checker}
 use Rattle.checker.specs.declared.Stepped.{Stepped}
 use Rattle.checker.specs.laws.Listed.{line-listed, broken-listed}
@@ -44,7 +44,7 @@ pub record Edge (s : Checker) (line : List ℕ) : Type 0 where
 -- ---- the answer
 
 -- an answer on a line is accepted, or refused, as the answer is
-off-line-accepted : (n : LineNo) (a : Answer) → onLine n a ≡ Accepted → a ≡ Accepted
+pub off-line-accepted : (n : LineNo) (a : Answer) → onLine n a ≡ Accepted → a ≡ Accepted
 off-line-accepted n Accepted e = refl
 off-line-accepted n (Refused r) e = never-refused (sym e)
 
@@ -67,7 +67,7 @@ module _ (s : Checker) (line : List ℕ) (ok : sound s ≡ true) where
   unfolding stepOf
   by-rules = rw ok
 
-  answered : stepOf s line .answer ≡ onLine (lineOf s) (firstBroken (rulesOfLine s line))
+  pub answered : stepOf s line .answer ≡ onLine (lineOf s) (firstBroken (rulesOfLine s line))
   answered = ap (λ (x : Stepped). x .answer) by-rules ∙ answer-on-line (firstBroken (rulesOfLine s line)) s line
 
   -- accepted exactly if every rule is kept
@@ -132,6 +132,28 @@ next-phase FileTrailer s rec = refl
 
 -- ---- a line's rules, as facts, where it is read as r
 
+-- those before the record's own
+pub record LineRead (r : Record) (s : Checker) (line : List ℕ) : Type 0 where
+  pub long : length line ≡ lineBytes
+  pub printable : allPrintable (recordIn line) ≡ true
+  pub cr : place 241 line ≡ 13
+  pub lf : place 242 line ≡ 10
+  pub read : lineIs s (recordIn line) ≡ Line r
+
+-- then its answer is that of the record's own rules
+pub line-answers : {r : Record} (s : Checker) (line : List ℕ) → LineRead r s line → firstBroken (rulesOfLine s line) ≡ firstBroken (rulesAs r s (recordIn line))
+unfolding rulesOfLine lineRules typeRules
+line-answers {r} s line a =
+    let rec = recordIn line in
+    let on : not (ended (s .phase)) ≡ true = rw (not-ended s rec (a .read)) in
+    sym
+    (past 3 0 _ _ _ on
+    (past 1 0 _ _ _ (eq-eqb _ _ (a .long))
+    (past 4 _ _ _ _ (a .printable)
+    (past 5 _ _ _ _ (eq-eqb _ _ (a .cr))
+    (past 5 _ _ _ _ (eq-eqb _ _ (a .lf))
+    (past 6 _ _ _ _ (ap found (a .read)) (ap (λ (d : Reading). firstBroken (readingRules d s rec)) (sym (a .read)))))))))
+
 pub record LineAs (r : Record) (s : Checker) (line : List ℕ) : Type 0 where
   pub long : length line ≡ lineBytes
   pub printable : allPrintable (recordIn line) ≡ true
@@ -145,7 +167,7 @@ unfolding AllKept rulesOfLine lineRules typeRules
 line-kept s line a =
     let rec = recordIn line in
     let on : not (ended (s .phase)) ≡ true = rw (not-ended s rec (a .read)) in
-    let rules = subst (λ (d : Due). AllKept (dueRules d s rec)) (sym (a .read)) (a .rules) in
+    let rules = subst (λ (d : Reading). AllKept (readingRules d s rec)) (sym (a .read)) (a .rules) in
     (on, (eq-eqb _ _ (a .long), (a .printable, (eq-eqb _ _ (a .cr), (eq-eqb _ _ (a .lf), (ap found (a .read), rules))))))
 
 pub kept-line : (s : Checker) (line : List ℕ) → AllKept (rulesOfLine s line) → (r : Record) × LineAs r s line
@@ -158,7 +180,7 @@ kept-line s line k = go (lineIs s rec) refl (typed .0) (typed .1)
     typed : AllKept (typeRules s rec)
     typed = k .1 .1 .1 .1 .1
 
-    go : (d : Due) → lineIs s rec ≡ d → found d ≡ true → AllKept (dueRules d s rec) → (r : Record) × LineAs r s line
+    go : (d : Reading) → lineIs s rec ≡ d → found d ≡ true → AllKept (readingRules d s rec) → (r : Record) × LineAs r s line
     go (Line r) q f rules =
         let long = eqb-true _ _ (k .1 .0) in
         (r, record { long = long; printable = k .1 .1 .0; cr = eqb-true _ _ (k .1 .1 .1 .0); lf = eqb-true _ _ (k .1 .1 .1 .1 .0); read = q; rules = rules })
@@ -169,7 +191,7 @@ pub line-moves : {r : Record} (s : Checker) (line : List ℕ) → sound s ≡ tr
 line-moves s line ok a =
     ap (λ (x : Stepped). x .state) (by-rules s line ok)
     ∙ ap (λ (a : Answer). answerTo a s line .state) (kept-accepted (rulesOfLine s line) (line-kept s line a))
-    ∙ ap (λ (d : Due). moved d s (recordIn line)) (a .read)
+    ∙ ap (λ (d : Reading). moved d s (recordIn line)) (a .read)
 
 -- an accepted line moves the state along its edge
 pub accepted-moves : (s : Checker) (line : List ℕ) → stepOf s line .answer ≡ Accepted → Edge s line

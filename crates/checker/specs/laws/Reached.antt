@@ -12,7 +12,7 @@ use Rattle.layout.specs.declared.Record.{Record}
 use Rattle.checker.specs.Order.{ended}
 use Rattle.checker.specs.Totals.{counts}
 use Rattle.checker.specs.Line.{rulesOfLine}
-use Rattle.checker.specs.Machine.{lineOf, sound, answerTo, stepOf}
+use Rattle.checker.specs.Machine.{lineOf, sound, stepped, answerTo, stepOf}
 use Rattle.checker.specs.File.{linesOf, unless, steps, run, endOf}
 use Rattle.checker.specs.Calls.{Reached, at-start, after-line, left}
 use Rattle.checker.specs.declared.file.Outcome.the-variants as outcome
@@ -37,7 +37,11 @@ steps-reached {s} (l ∷ ls) c = go (stepOf s l .answer) (steps-reached ls (afte
     go (Refused r) on = after-line l c
 
 pub run-reached : {s : Checker} (bytes : List ℕ) → Reached s → Reached (run s bytes .state)
-run-reached bytes c = steps-reached (linesOf bytes) c
+run-reached {s} bytes c = go (steps s (linesOf bytes) .answer)
+  where
+    go : (a : Answer) → Reached (unless a (steps s (linesOf bytes)) (stepped s (steps s (linesOf bytes) .answer)) .state)
+    go Accepted = steps-reached (linesOf bytes) c
+    go (Refused r) = c
 
 pub left-reached : {s : Checker} (ls : List (List ℕ)) → Reached s → Reached (left s ls)
 unfolding left

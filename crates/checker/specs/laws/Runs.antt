@@ -11,18 +11,12 @@ use lib.Seq.{length-take-le, take-all, take-append-le, drop-append-le}
 use Rattle.answer.specs.declared.Answer.{Answer}
 use Rattle.answer.specs.declared.Answer.the-variants.{Accepted, Refused}
 use Rattle.checker.specs.Line.{lineBytes}
-use Rattle.checker.specs.Machine.{start, stepOf}
-use Rattle.checker.specs.File.{cut, linesOf, unless, steps, run, endOf, outcome, finish, checkFile}
+use Rattle.checker.specs.Machine.{start, stepped, stepOf}
+use Rattle.checker.specs.File.{Lines, empty, short, full, cut, linesOf, unless, steps, leaving, run, endOf, outcome, finish, checkFile}
 use Rattle.checker.specs.Calls.{left}
 use Rattle.checker.specs.declared.Checker.{Checker}
 use Rattle.checker.specs.declared.Stepped.{Stepped}
 use Rattle.checker.specs.declared.file.Outcome.{Outcome}
-
--- lines of 242 bytes; a last one may be shorter, and is not empty
-pub data Lines : List (List ℕ) → Type 0 where
-  empty : Lines []
-  short : (l : List ℕ) → 1 ≤ length l → length l < lineBytes → Lines (l ∷ [])
-  full : (l : List ℕ) {ls : List (List ℕ)} → length l ≡ lineBytes → Lines ls → Lines (l ∷ ls)
 
 -- the answers of calls
 unfoldable pub answers : Checker → List (List ℕ) → List Answer
@@ -139,19 +133,40 @@ steps-append s (l ∷ xs) ys = go (stepOf s l .answer) refl (steps-append (stepO
     go Accepted e h = h
     go (Refused r) e h = rw e
 
+-- of two states that a refusal leaves, one inside the other, the outer is left
+leaving-twice : (s t : Checker) (y : Stepped) → leaving s (leaving t y) ≡ leaving s y
+leaving-twice s t y = go (y .answer) refl
+  where
+    go : (a : Answer) → y .answer ≡ a → leaving s (unless a y (stepped t a)) ≡ unless a y (stepped s a)
+    go Accepted q = rw q
+    go (Refused r) q = refl
+
 -- bytes in two calls: the first has whole lines
 module _ (s : Checker) (k : ℕ) (a b : List ℕ) (whole : length a ≡ k * lineBytes) where
-  pub run-append : run s (a ++ b) ≡ unless (run s a .answer) (run (run s a .state) b) (run s a)
-  run-append = rw (lines-append k a b whole) (steps-append s (linesOf a) (linesOf b))
+  abbrev first : Stepped
+  first = steps s (linesOf a)
+
+  both : steps s (linesOf (a ++ b)) ≡ unless (first .answer) (steps (first .state) (linesOf b)) first
+  both = rw (lines-append k a b whole) (steps-append s (linesOf a) (linesOf b))
+
+  -- the second call goes on where the first is accepted; a refusal of either leaves the state that the first was given
+  pub run-append : run s (a ++ b) ≡ unless (run s a .answer) (leaving s (run (run s a .state) b)) (run s a)
+  run-append = rw both (go (first .answer) refl)
+    where
+      go : (x : Answer) → first .answer ≡ x
+          → leaving s (unless x (steps (first .state) (linesOf b)) first)
+          ≡ unless (unless x first (stepped s x) .answer) (leaving s (run (unless x first (stepped s x) .state) b)) (unless x first (stepped s x))
+      go Accepted e = rw e (sym (leaving-twice s (first .state) (steps (first .state) (linesOf b))))
+      go (Refused r) e = rw e
 
   pub finish-append : finish s (a ++ b) ≡ outcome (run s a .answer) (finish (run s a .state) b)
   unfolding finish
-  finish-append = rw run-append (go (run s a .answer) refl)
+  finish-append = rw both (go (first .answer) refl)
     where
-      go : (x : Answer) → run s a .answer ≡ x
-          → outcome (unless x (run (run s a .state) b) (run s a) .answer) (endOf (unless x (run (run s a .state) b) (run s a) .state))
-          ≡ outcome x (outcome (run (run s a .state) b .answer) (endOf (run (run s a .state) b .state)))
-      go Accepted e = refl
+      go : (x : Answer) → first .answer ≡ x
+          → outcome (unless x (steps (first .state) (linesOf b)) first .answer) (endOf (unless x (steps (first .state) (linesOf b)) first .state))
+          ≡ outcome (unless x first (stepped s x) .answer) (finish (unless x first (stepped s x) .state) b)
+      go Accepted e = rw e
       go (Refused r) e = rw e
 
 -- ---- a file as single calls

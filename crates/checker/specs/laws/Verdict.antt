@@ -15,7 +15,7 @@ use Rattle.checker.specs.Order.{ended}
 use Rattle.checker.specs.Totals.{add}
 use Rattle.checker.specs.Line.{recordIn, rulesOfLine}
 use Rattle.checker.specs.Machine.{start, lineOf, next, stepped, stepOf}
-use Rattle.checker.specs.File.{linesOf, unless, steps, endOf, outcome, finish, checkFile}
+use Rattle.checker.specs.File.{Lines, empty, full, linesOf, unless, steps, endOf, outcome, finish, checkFile}
 use Rattle.checker.specs.Calls.{Reached, at-start, after-line, Through, here, further}
 use Rattle.checker.specs.declared.totals.Totals.{Totals}
 use Rattle.checker.specs.declared.Checker.{Checker}
@@ -27,7 +27,7 @@ use Rattle.checker.specs.laws.Bounds.{counts-are}
 use Rattle.checker.specs.laws.Listed.{lastNumber, line-listed, broken-listed}
 use Rattle.checker.specs.laws.Meaning.{Breaks, line-accepted, line-refused, kept-line, line-moves}
 use Rattle.checker.specs.laws.Reached.{reached, end-never-guarded}
-use Rattle.checker.specs.laws.Runs.{Lines, empty, full, steps-append}
+use Rattle.checker.specs.laws.Runs.{steps-append}
 
 -- accepted: every line is, and the last is the file trailer
 pub record Passed (s : Checker) (ls : List (List ℕ)) (t : Totals) : Type 0 where

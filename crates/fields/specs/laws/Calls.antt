@@ -1,9 +1,9 @@
 -- Reading and writing a record as calls, the one of what the other gave. Assumes nothing.
-use mathlib.Core.Path.{_≡_, ap, _∙_}
+use mathlib.Core.Path.{_≡_, sym, ap, _∙_}
 use mathlib.Core.List.{List}
 use Prim.Native.Nat.{ℕ, _≤_}
 use lib.ListN.{length, take}
-use Rattle.answer.specs.Output.{Writes}
+use Rattle.answer.specs.Output.{Writes, written}
 use Rattle.answer.specs.laws.Frame.{was-accepted, is-accepted, left-new}
 use Rattle.answer.specs.declared.Answer.{Answer}
 use Rattle.answer.specs.declared.Answer.the-variants.{Accepted}
@@ -11,11 +11,12 @@ use Rattle.layout.specs.Table.{recordBytes}
 use Rattle.layout.specs.Record.{recordRules}
 use Rattle.layout.specs.declared.Direction.{Direction}
 use Rattle.layout.specs.declared.Record.{Record}
-use Rattle.fields.specs.Values.{recordOf, fieldsIn, readRecord}
+use Rattle.fields.specs.Values.{recordOf, Puts, fieldsIn, readRecord}
 use Rattle.fields.specs.laws.Parts.{record-length}
 use Rattle.fields.specs.laws.Kept.{right-length}
 use Rattle.fields.specs.laws.RoundTrip.{given, read-then-written, written-then-read}
 use Rattle.fields.specs.declared.Fields.{Fields}
+use Rattle.fields.specs.declared.writing.Made.{Made}
 
 -- an accepted read gives the record's fields
 pub read-fields : (r : Record) (d : Direction) (rec : List ℕ) → readRecord r d rec .answer ≡ Accepted → readRecord r d rec .fields ≡ fieldsIn r rec
@@ -40,3 +41,9 @@ module _ (r : Record) (d : Direction) {out after : List ℕ} {a : Answer} where
       let w′ = rw ok at w in
       let e = was-accepted w′ in
       rw (left-new w′ (record-length r v full)) (e, ap (given r) (read-fields r d (recordOf r v) e) ∙ written-then-read r d v full e)
+
+-- a record put into the output: its answer and the output afterwards are determined
+pub one-put : {m : Made} {out after after′ : List ℕ} {a b : Answer} → Puts m out a after → Puts m out b after′ → (a ≡ b) × (after ≡ after′)
+one-put {m} {out} p q =
+    let same = p .answered ∙ sym (q .answered) in
+    (same, p .memory ∙ ap (λ (x : Answer). written x (recordOf (m .fields .which) (m .fields)) out) same ∙ sym (q .memory))

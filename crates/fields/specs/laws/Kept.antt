@@ -20,15 +20,17 @@ use Rattle.digits.specs.declared.spelling.Number.{Number}
 use Rattle.digits.specs.declared.spelling.Number.the-variants.{Is, Not}
 use Rattle.calendar.specs.Calendar.{numberFits, dateFits, timeFits}
 use Rattle.layout.specs.Pairs.{Pairs, pairs, among, batchAmong, batchOf, known}
-use Rattle.layout.specs.Table.{Kind, N, Id, T as Text, F, D, Time, K, O, Zeros, Exact, OneOf, Service, Form, Barcode, RecordType, Segment, Field, part, fieldsOf, recordBytes, none, serviceField, formField}
+use Rattle.layout.specs.Table.{Kind, N, Id, T as Text, F, D, Time, K, O, Zeros, Exact, OneOf, Service, Form, Barcode, RecordType, Segment, Field, field, part, fieldsOf, recordBytes, none, serviceField, formField}
 use Rattle.layout.specs.Kinds.{Held, asNumber, asBytes, asFixed, means, isFixed, oneOf}
 use Rattle.layout.specs.Record.{partOf, fieldRules, rulesOf, firstRules, recordRules}
 use Rattle.layout.specs.laws.Bytes.{and-left, and-right, same-true, no-service, no-form}
+use Rattle.layout.specs.laws.Tiling.{All, at}
 use Rattle.layout.specs.laws.Sound.{width, fills, stands, proper, Sound, sound-at}
 use Rattle.layout.specs.declared.Direction.{Direction}
 use Rattle.layout.specs.declared.Record.{Record}
+use Rattle.layout.specs.declared.Record.the-variants.{FileHeader, BatchHeader, SegmentA, SegmentB, SegmentJ, SegmentJ52, SegmentZ, BatchTrailer, FileTrailer}
 use Rattle.fields.specs.Values.{heldAs}
-use Rattle.fields.specs.laws.Wide.{wide, wideNumber, widePlace}
+use Rattle.fields.specs.laws.Wide.{carrier, wideNumber, widePlace}
 
 -- ---- bytes that give a number
 
@@ -83,7 +85,7 @@ data Ruled (bs : List ℕ) (number place : ℕ) : Held → List Rule → Type 0 
   content-only : {content : ℕ → List ℕ} {n p : ℕ} → Ruled bs number place (asFixed content) (rule n p (isFixed content bs) ∷ [])
 
 ruled : (k : Kind) (f : Field) (d : Direction) (rec : List ℕ) → length (part f rec) ≤ width f → T (fills (means k .held) (width f)) → T (proper k f)
-    → Ruled (part f rec) (wide k .number) (wide k .place (f .from)) (means k .held) (means k .rules (partOf f d rec))
+    → let g = field (f .from) (f .to) k in Ruled (part f rec) (wideNumber k) (widePlace g) (means k .held) (fieldRules (carrier g) d rec)
 unfolding dateFits timeFits batchOf
 ruled N f d rec l s o = a-number (all-some (part f rec) (omega (arith, leb→le (width f) mostDigits s)))
 ruled Id f d rec l s o = any-bytes
@@ -103,7 +105,7 @@ ruled (RecordType b) f d rec l s o = content-only
 ruled (Segment b) f d rec l s o = content-only
 
 module _ (f : Field) (d : Direction) (rec : List ℕ) (s : Sound f) where
-  rules-of : Ruled (part f rec) (wideNumber (f .kind)) (widePlace f) (heldAs f) (fieldRules f d rec)
+  rules-of : Ruled (part f rec) (wideNumber (f .kind)) (widePlace f) (heldAs f) (fieldRules (carrier f) d rec)
   rules-of = ruled (f .kind) f d rec (rw length-take (omega arith)) (s .filled) (s .own)
 
 -- ---- kept, and broken
@@ -131,10 +133,10 @@ module _ {bs : List ℕ} {number place : ℕ} where
   breaks content-only e q = cc
 
 module _ (f : Field) (d : Direction) (rec : List ℕ) (s : Sound f) where
-  pub kept : firstBroken (fieldRules f d rec) ≡ Accepted → Kept (part f rec) (heldAs f)
+  pub kept : firstBroken (fieldRules (carrier f) d rec) ≡ Accepted → Kept (part f rec) (heldAs f)
   kept = keeps (rules-of f d rec s)
 
-  pub no-number : heldAs f ≡ asNumber → numberOf (part f rec) ≡ Not → firstBroken (fieldRules f d rec) ≡ refusedAs (wideNumber (f .kind)) (widePlace f)
+  pub no-number : heldAs f ≡ asNumber → numberOf (part f rec) ≡ Not → firstBroken (fieldRules (carrier f) d rec) ≡ refusedAs (wideNumber (f .kind)) (widePlace f)
   no-number = breaks (rules-of f d rec s)
 
 -- ---- one field's rules among all
@@ -149,12 +151,33 @@ rules-at [] d rec j h = absurd (not-suc-le-zero h)
 rules-at (f ∷ fs) d rec zero h = refl
 rules-at (f ∷ fs) d rec (suc j) h = rw (rules-at fs d rec j (le-of-suc-le-suc h)) (sym (append-assoc (fieldRules f d rec) _ _))
 
+-- each field's rules are kept, if all are
+each-accepted : (fs : List Field) (d : Direction) (rec : List ℕ) → firstBroken (rulesOf fs d rec) ≡ Accepted → All (λ f. firstBroken (fieldRules f d rec) ≡ Accepted) fs
+unfolding rulesOf All
+each-accepted [] d rec e = tt
+each-accepted (f ∷ fs) d rec e = (front-accepted (fieldRules f d rec) _ e, each-accepted fs d rec (back-accepted (fieldRules f d rec) _ e))
+
+-- what holds at each field of a record holds at the field that carries its rule
+carried : (r : Record) (P : Field → Type 0) → All P (fieldsOf r) → All (λ f. P (carrier f)) (fieldsOf r)
+unfolding All fieldsOf
+carried FileHeader P a = a
+carried BatchHeader P a =
+    let service = a .1 .1 .1 .1 .0 in
+    (a .0, (a .1 .0, (a .1 .1 .0, (a .1 .1 .1 .0, (service, (service, a .1 .1 .1 .1 .1 .1))))))
+carried SegmentA P a = a
+carried SegmentB P a = a
+carried SegmentJ P a = a
+carried SegmentJ52 P a = a
+carried SegmentZ P a = a
+carried BatchTrailer P a = a
+carried FileTrailer P a = a
+
 -- each field of a record whose fields are accepted is right
 pub kept-field : (r : Record) (d : Direction) (rec : List ℕ) → firstBroken (rulesOf (fieldsOf r) d rec) ≡ Accepted
     → (j : ℕ) → j < length (fieldsOf r) → let f = getD (fieldsOf r) j none in Kept (part f rec) (heldAs f)
 kept-field r d rec e j h =
-    let fields = rw (rules-at (fieldsOf r) d rec j h) at e in
-    kept _ d rec (sound-at r j h) (front-accepted _ _ (back-accepted (rulesOf (take j (fieldsOf r)) d rec) _ fields))
+    let each = carried r (λ f. firstBroken (fieldRules f d rec) ≡ Accepted) (each-accepted (fieldsOf r) d rec e) in
+    kept _ d rec (sound-at r j h) (at (λ f. firstBroken (fieldRules (carrier f) d rec) ≡ Accepted) (fieldsOf r) each j h)
 
 module _ (r : Record) (d : Direction) (rec : List ℕ) (e : firstBroken (recordRules r d rec) ≡ Accepted) where
   pub right-length : length rec ≡ recordBytes

@@ -1,12 +1,12 @@
 -- Reading and writing a record undo each other. Assumes nothing.
 use mathlib.Core.Path.{_≡_, refl, ap, ap₂, _∙_}
 use mathlib.Core.List.{List, [], _∷_, _++_}
-use Prim.Native.Nat.{ℕ, zero, suc, _^_, _<_, suc-le-suc, zero-le}
+use Prim.Native.Nat.{ℕ, zero, suc, _-_, _^_, _<_, suc-le-suc, zero-le}
 use native.Mathlib.Nat.{not-suc-le-zero, le-of-suc-le-suc}
 use native.Mathlib.Decide.{decLt}
 use native.Mathlib.Numerals.{one-add}
 use native.Mathlib.Omega.{arith}
-use lib.ListN.{length, getD, drop}
+use lib.ListN.{length, getD, drop, length-append, length-replicate}
 use lib.Seq.{getD-drop}
 use Rattle.answer.specs.Rules.{firstBroken}
 use Rattle.answer.specs.declared.Answer.the-variants.{Accepted}
@@ -15,12 +15,12 @@ use Rattle.digits.specs.laws.Numerals.{given as digits-of, length-numeral, prin
 use Rattle.digits.specs.declared.spelling.Number.the-variants.{Is}
 use Rattle.layout.specs.Table.{Field, part, fieldsOf, recordBytes, none}
 use Rattle.layout.specs.Kinds.{Held, asNumber, asBytes, asFixed}
-use Rattle.layout.specs.Record.{rulesOf, recordRules}
+use Rattle.layout.specs.Record.{rulesOf, firstRules, recordRules}
 use Rattle.layout.specs.declared.Direction.{Direction}
 use Rattle.layout.specs.declared.Record.{Record}
-use Rattle.fields.specs.Values.{heldAs, rendered, recordOf, numberIn, numbersIn, fieldsIn}
-use Rattle.fields.specs.laws.Parts.{part-width, record-length, holds, same-parts}
-use Rattle.fields.specs.laws.Kept.{Kept, is-number, is-bytes, is-fixed, kept-field, right-length, right-field}
+use Rattle.fields.specs.Values.{heldAs, rendered, recordOf, numberIn, numbersIn, mostFields, fieldsIn}
+use Rattle.fields.specs.laws.Parts.{few, part-width, record-length, holds, same-parts}
+use Rattle.fields.specs.laws.Kept.{Kept, is-number, is-bytes, is-fixed, back-accepted, kept-field, right-length, right-field}
 use Rattle.fields.specs.declared.Fields.{Fields}
 
 -- ---- what a caller gives for a field, or reads of it; fixed content is neither
@@ -91,17 +91,38 @@ given-same (f ∷ fs) ns ms s t e =
 
 -- ---- a record
 
-module _ (r : Record) (d : Direction) (rec : List ℕ) (e : firstBroken (recordRules r d rec) ≡ Accepted) where
-  -- what is written from fields that were read is the record that they were read from
-  pub read-then-written : recordOf r (fieldsIn r rec) ≡ rec
-  unfolding fieldsIn
-  read-then-written = same-parts r _ rec (record-length r _ full) full each
-    where
-      full : length rec ≡ recordBytes
-      full = right-length r d rec e
+-- its fields as they are read: as many numbers as a value has room for
+each-number : (fs : List Field) (rec : List ℕ) → length (numbersIn fs rec) ≡ length fs
+unfolding numbersIn
+each-number [] rec = refl
+each-number (f ∷ fs) rec = ap suc (each-number fs rec)
 
+pub numbers-length : (r : Record) (rec : List ℕ) → length (fieldsIn r rec .numbers) ≡ mostFields
+unfolding fieldsIn
+numbers-length r rec =
+    length-append (numbersIn (fieldsOf r) rec) _
+    ∙ omega (arith, few r, each-number (fieldsOf r) rec, length-replicate {A = ℕ} (mostFields - length (fieldsOf r)) 0)
+
+-- where a field's digits give a number, that number
+pub number-in : (r : Record) (rec : List ℕ) (j : ℕ) {n : ℕ} → j < length (fieldsOf r) → let f = getD (fieldsOf r) j none in
+    heldAs f ≡ asNumber → numberOf (part f rec) ≡ Is n → getD (fieldsIn r rec .numbers) j 0 ≡ n
+unfolding fieldsIn
+number-in r rec j h a e = number-at (fieldsOf r) rec _ j h ∙ rw (a, e)
+
+module _ (r : Record) (d : Direction) (rec : List ℕ) (full : length rec ≡ recordBytes) (e : firstBroken (rulesOf (fieldsOf r) d rec) ≡ Accepted) where
+  -- what is written from fields that were read, and are right, is the record that they were read from
+  pub fields-then-written : recordOf r (fieldsIn r rec) ≡ rec
+  unfolding fieldsIn
+  fields-then-written = same-parts r _ rec (record-length r _ full) full each
+    where
       each : (j : ℕ) → j < length (fieldsOf r) → let f = getD (fieldsOf r) j none in part f (recordOf r (fieldsIn r rec)) ≡ part f rec
-      each j h = holds r _ full j h ∙ rw (number-at (fieldsOf r) rec _ j h) (same-back (right-field r d rec e j h))
+      each j h = holds r _ full j h ∙ rw (number-at (fieldsOf r) rec _ j h) (same-back (kept-field r d rec e j h))
+
+-- so of a record that is accepted alone
+pub read-then-written : (r : Record) (d : Direction) (rec : List ℕ) → firstBroken (recordRules r d rec) ≡ Accepted → recordOf r (fieldsIn r rec) ≡ rec
+unfolding recordRules
+read-then-written r d rec e =
+    fields-then-written r d rec (right-length r d rec e) (back-accepted (firstRules r d rec) (rulesOf (fieldsOf r) d rec) e)
 
 -- what is read of a record that was written is what was given
 module _ (r : Record) (d : Direction) (v : Fields) (full : length (v .text) ≡ recordBytes) (e : firstBroken (recordRules r d (recordOf r v)) ≡ Accepted) where

@@ -2,39 +2,44 @@
 use Prim.Native.Nat.{ℕ}
 use Rattle.layout.specs.Table.{Kind, N, Id, T, F, D, Time, K, O, Zeros, Exact, OneOf, Service, Form, Barcode, RecordType, Segment, Field, serviceField}
 
--- the refusal's number, and its place by the field's first
+-- the refusal's number, and the field that carries the rule
 pub record Wide : Type 0 where
   pub number : ℕ
-  pub place : ℕ → ℕ
+  pub by : Field → Field
 
-abbrev pub ownPlace : ℕ → Wide
-ownPlace number = record { number = number; place = λ from. from }
+-- the field's own rule
+abbrev pub ownRule : ℕ → Wide
+ownRule number = record { number = number; by = λ f. f }
 
--- service or form: the pair is refused, at the service
-abbrev pub pairPlace : Wide
-pairPlace = record { number = 14; place = λ from. serviceField .from }
+-- service or form: the pair's rule, which the service carries
+abbrev pub pairsRule : Wide
+pairsRule = record { number = 14; by = λ f. serviceField }
 
 -- 0 stands for the kinds that are not held as numbers
 abbrev pub wide : Kind → Wide
-wide N = ownPlace 8
-wide Id = ownPlace 0
-wide T = ownPlace 0
-wide F = ownPlace 0
-wide D = ownPlace 15
-wide Time = ownPlace 15
-wide K = ownPlace 0
-wide O = ownPlace 0
-wide Zeros = ownPlace 0
-wide (Exact bs) = ownPlace 0
-wide (OneOf domain) = ownPlace 14
-wide Service = pairPlace
-wide Form = pairPlace
-wide Barcode = ownPlace 0
-wide (RecordType b) = ownPlace 0
-wide (Segment b) = ownPlace 0
+wide N = ownRule 8
+wide Id = ownRule 0
+wide T = ownRule 0
+wide F = ownRule 0
+wide D = ownRule 15
+wide Time = ownRule 15
+wide K = ownRule 0
+wide O = ownRule 0
+wide Zeros = ownRule 0
+wide (Exact bs) = ownRule 0
+wide (OneOf domain) = ownRule 14
+wide Service = pairsRule
+wide Form = pairsRule
+wide Barcode = ownRule 0
+wide (RecordType b) = ownRule 0
+wide (Segment b) = ownRule 0
 
 abbrev pub wideNumber : Kind → ℕ
 wideNumber k = wide k .number
 
+-- the field that carries a field's rule: every field its own, but a form, whose rule is the service's
+abbrev pub carrier : Field → Field
+carrier f = wide (f .kind) .by f
+
 abbrev pub widePlace : Field → ℕ
-widePlace f = wide (f .kind) .place (f .from)
+widePlace f = carrier f .from

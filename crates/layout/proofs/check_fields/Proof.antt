@@ -12,10 +12,10 @@ returns c = c .refused .ensures ∙ here _ _ _ _ (ne-eqb _ _ (c .before .if1 .ta
 
 check-fields-requires : tie.Need-check-fields-requires
 unfolding all fieldsOfEach fieldsOf
-check-fields-requires c κs = (record { froms = refl; tos = refl; kindsOf = refl }, (c .before .before .before .before .fixed-text .ensures, search needs))
+check-fields-requires c κs = (record { froms = refl; tos = refl; kindsOf = refl }, search needs)
 
 returns-2 : tie.Need-returns-2
-returns-2 c = past _ _ _ _ _ (eq-eqb _ _ (c .before .before .before .before .before .before .if1 .left)) (c .check-fields .ensures)
+returns-2 c = past _ _ _ _ _ (eq-eqb _ _ (c .before .before .before .before .if1 .left)) (c .check-fields .ensures)
 
 pub check-fields-spec : {M : Type 1} → statement M
 check-fields-spec =
@@ -23,7 +23,5 @@ check-fields-spec =
     (tie.spec
     (λ c κs. search needs)
     returns
-    (λ c κs. search needs)
-    (λ c. search needs)
     check-fields-requires
     returns-2)

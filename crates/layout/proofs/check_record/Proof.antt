@@ -15,20 +15,19 @@ returns c = c .refused .ensures ∙ here _ _ _ _ (ne-eqb _ _ (c .before .if1 .ta
 
 check-marks-requires : tie.Need-check-marks-requires
 unfolding all fieldsOfEach fieldsOf
-check-marks-requires c κs = (record { froms = refl; tos = refl; kindsOf = refl }, (c .before .before .before .before .before .fixed-text .ensures, search needs))
+check-marks-requires c κs = (record { froms = refl; tos = refl; kindsOf = refl }, search needs)
 
 check-fields-requires : tie.Need-check-fields-requires
 unfolding all fieldsOfEach fieldsOf
-check-fields-requires c κs =
-    (record { froms = refl; tos = refl; kindsOf = refl }, (c .before .before .before .before .before .before .before .before .before .before .fixed-text .ensures, search needs))
+check-fields-requires c κs = (record { froms = refl; tos = refl; kindsOf = refl }, search needs)
 
 returns-2 : tie.Need-returns-2
 unfolding recordRules
 returns-2 c =
     let at-fields = c .before .before in
-    let at-marks = at-fields .before .before .before .before .before in
-    let at-bytes = at-marks .before .before .before .before .before in
-    past _ _ _ _ _ (eq-eqb _ _ (at-bytes .before .before .if1 .left))
+    let at-marks = at-fields .before .before .before .before in
+    let at-bytes = at-marks .before .before .before .before in
+    past _ _ _ _ _ (eq-eqb _ _ (at-bytes .before .if1 .left))
     (c .and-then2 .ensures
     ∙ rw (at-bytes .check-bytes .ensures)
     (one-then _ _ _ (c .before .and-then .ensures ∙ rw (at-marks .check-marks .ensures, at-fields .check-fields .ensures, all-fields _) (sym (first-append _ _)))))
@@ -40,10 +39,7 @@ check-record-spec =
     (λ c κs. search needs)
     returns
     (λ c κs. search needs)
-    (λ c κs. search needs)
-    (λ c. search needs)
     check-marks-requires
-    (λ c. search needs)
     check-fields-requires
     (λ c κs. search needs)
     (λ c κs. search needs)

@@ -1,13 +1,16 @@
--- The table as the code holds and lends it: columns of numbers, and one text of all fixed byte strings. Assumes nothing.
+-- The table as the code holds and lends it: columns of numbers, kinds by number, and fixed content. Assumes nothing.
 use mathlib.Core.Path.{_≡_}
 use mathlib.Core.Bool.{Bool, cond, _&&_}
-use mathlib.Core.List.{List, [], _∷_, _++_, map}
-use Prim.Native.Nat.{ℕ, zero, suc, _+_, _-_}
+use mathlib.Core.List.{List, [], _∷_, map}
+use Prim.Native.Nat.{ℕ, _+_, _-_}
 use lib.Dec.{leb, ltb}
-use lib.ListN.{length, getD, take, replicate}
+use lib.ListN.{length, getD, take}
 use Rattle.digits.specs.Digits.{digitByte}
+use Rattle.digits.specs.laws.Strings.{tab}
 use Rattle.layout.specs.Table.{Kind, N, Id, T, F, D, Time, K, O, Zeros, Service, Form, Barcode, RecordType, Segment, Field, fieldsOf, zeroOneTwo, zeroNine, oneTwo, exactC, exact09, exact52, code, records, fieldsOfEach, all}
 use Rattle.layout.specs.Kinds.{Held, asNumber, asBytes, asFixed, means, blank}
+use Rattle.layout.specs.declared.fixed.Content.{Content}
+use Rattle.layout.specs.declared.fixed.Content.the-variants.{Run, LetterC, Code09, Code52}
 use Rattle.layout.specs.declared.kinds.Fill.{Fill}
 use Rattle.layout.specs.declared.kinds.Fill.the-variants.{Number, Text, Fixed}
 use Rattle.layout.specs.declared.table.Entry.{Entry}
@@ -36,11 +39,11 @@ entryIn from to kind f = record { from = inColumn from f; to = inColumn to f; ki
 -- ---- kinds by number
 
 abbrev pub kinds : List Kind
-kinds = N ∷ D ∷ Time ∷ zeroNine ∷ Service ∷ Form ∷ Barcode ∷ T ∷ zeroOneTwo ∷ oneTwo ∷ Id ∷ O ∷ K ∷ Zeros ∷ exactC ∷ exact09 ∷ exact52 ∷ []
+kinds = N ∷ D ∷ Time ∷ zeroNine ∷ Service ∷ Barcode ∷ T ∷ Form ∷ zeroOneTwo ∷ oneTwo ∷ Id ∷ O ∷ K ∷ Zeros ∷ exactC ∷ exact09 ∷ exact52 ∷ []
 
 -- D to T have a rule for the field as a whole
 abbrev pub whole? : ℕ → Bool
-whole? n = leb 1 n && leb n 7
+whole? n = leb 1 n && leb n 6
 
 -- types and segments are named by their byte, from 0 to Z; any other number names F
 abbrev pub firstMark : ℕ
@@ -58,47 +61,38 @@ mark? n = leb firstMark n && leb n lastMark
 abbrev pub kindOf : ℕ → Kind
 kindOf n = cond (mark? n) (cond (ltb n firstLetter) (RecordType n) (Segment n)) (getD kinds n F)
 
--- ---- the fixed text
+-- ---- fixed content
 
--- the longest run of blanks, and of zeros
-abbrev pub mostBlanks : ℕ
-mostBlanks = 205
+-- the byte at a place of a field, counted from 0; past the end of a byte string 0
+abbrev pub byteAt : Content → ℕ → ℕ
+byteAt (Run b) i = b
+byteAt LetterC i = getD (67 ∷ []) i 0
+byteAt Code09 i = getD (digitByte 0 ∷ digitByte 9 ∷ []) i 0
+byteAt Code52 i = getD (digitByte 5 ∷ digitByte 2 ∷ []) i 0
 
-abbrev pub mostZeros : ℕ
-mostZeros = 15
+-- all bytes of a field of this width
+abbrev pub contentOf : Content → ℕ → List ℕ
+contentOf c width = tab width (byteAt c)
 
--- n bytes in a row, from b on
-abbrev pub bytesFrom : ℕ → ℕ → List ℕ
-bytesFrom zero b = []
-bytesFrom (suc n) b = b ∷ bytesFrom n (suc b)
+-- the kinds of fixed content, from K on
+abbrev pub firstFixed : ℕ
+firstFixed = 12
 
--- behind the blanks: zeros, C, 09, 52, and each byte from 0 to Z
-unfoldable pub texts : List ℕ
-texts =
-    replicate mostZeros (digitByte 0)
-    ++ 67 ∷ digitByte 0 ∷ digitByte 9 ∷ digitByte 5 ∷ digitByte 2 ∷ bytesFrom 43 firstMark
+abbrev pub contents : List Content
+contents = Run blank ∷ Run (digitByte 0) ∷ LetterC ∷ Code09 ∷ Code52 ∷ []
 
-unfoldable pub fixedText : List ℕ
-fixedText = replicate mostBlanks blank ++ texts
+-- that of a kind by number; a type and a segment are their byte
+abbrev pub contentBy : ℕ → Content
+contentBy n = cond (mark? n) (Run n) (getD contents (n - firstFixed) (Run blank))
 
-abbrev pub fixedBytes : ℕ
-fixedBytes = 268
-
-abbrev pub markAt : ℕ → ℕ
-markAt n = 225 + (n - firstMark)
-
--- where the byte string of a kind by number begins in it
-abbrev pub textAt : ℕ → ℕ
-textAt n = cond (mark? n) (markAt n) (getD (0 ∷ 205 ∷ 220 ∷ 221 ∷ 223 ∷ []) (n - 12) 0)
-
-abbrev pub fillAs : Held → ℕ → Fill
-fillAs asNumber at = Number
-fillAs asBytes at = Text
-fillAs (asFixed content) at = Fixed at
+abbrev pub fillAs : Held → Content → Fill
+fillAs asNumber c = Number
+fillAs asBytes c = Text
+fillAs (asFixed content) c = Fixed c
 
 -- what a field is filled with whose kind has this number
 abbrev pub fillOf : ℕ → Fill
-fillOf n = fillAs (means (kindOf n) .held) (textAt n)
+fillOf n = fillAs (means (kindOf n) .held) (contentBy n)
 
 -- three lists are the table's columns
 pub record Columns (from to kind : List ℕ) : Type 0 where

@@ -2,14 +2,13 @@
 use mathlib.Core.Path.{_≡_}
 use mathlib.Core.Bool.{Bool, true, false, cond, _&&_}
 use mathlib.Core.List.{List, [], _∷_, _++_}
-use Prim.Native.Nat.{ℕ, suc, _+_, _≤_, _<_}
+use Prim.Native.Nat.{ℕ, zero, suc, _+_, _≤_, _<_}
 use lib.Dec.{leb}
 use lib.ListN.{length, getD, drop}
 use Rattle.answer.specs.Rules.{firstBroken}
 use Rattle.answer.specs.declared.Answer.the-variants.{Accepted}
 use Rattle.digits.specs.Digits.{digitByte}
 use Rattle.digits.specs.laws.Strings.{tab}
-use Rattle.layout.specs.inner.Lent.{bytesFrom}
 use Rattle.layout.specs.Table.{Kind, N, Id, T, F, D, Time, K, O, Zeros, Exact, OneOf, Service, Form, Barcode, RecordType, Segment, Field, none, all}
 use Rattle.layout.specs.Kinds.{blank, same}
 use Rattle.layout.specs.Record.{fieldRules}
@@ -39,6 +38,11 @@ digits enough = between (digitByte 0) (digitByte 9) enough
 abbrev pub exactly : List ℕ → Mask
 exactly bs = record { low = λ i. getD bs i 0; high = λ d i. getD bs i 0; enough = true }
 
+-- n bytes in a row, from b on
+abbrev pub bytesFrom : ℕ → ℕ → List ℕ
+bytesFrom zero b = []
+bytesFrom (suc n) b = b ∷ bytesFrom n (suc b)
+
 -- a domain that is a row of bytes with no gap, as 0 to 2
 abbrev pub domainMask : List ℕ → Mask
 domainMask [] = free false
@@ -62,7 +66,7 @@ maskOf Zeros = between (digitByte 0) (digitByte 0) true
 maskOf (Exact bs) = exactly bs
 maskOf (OneOf domain) = domainMask domain
 maskOf Service = free false
-maskOf Form = free false
+maskOf Form = free true
 maskOf Barcode = digits false
 maskOf (RecordType b) = exactly (b ∷ [])
 maskOf (Segment b) = exactly (b ∷ [])

@@ -17,14 +17,14 @@ use Rattle.answer.specs.declared.Answer.the-variants.{Accepted}
 use Rattle.digits.specs.Digits.{allDigits}
 use Rattle.digits.specs.laws.Strings.{tab, all-leading}
 use Rattle.digits.specs.laws.Tests.{every, every-at}
-use Rattle.layout.specs.inner.Lent.{bytesFrom, startOf, whole?, mark?, firstLetter, kindOf}
+use Rattle.layout.specs.inner.Lent.{startOf, whole?, mark?, firstLetter, kindOf}
 use Rattle.layout.specs.Pairs.{among}
 use Rattle.layout.specs.Table.{Kind, N, Id, T as Text, F, D, Time, K, O, Zeros, Exact, OneOf, Service, Form, Barcode, RecordType, Segment, Field, fieldsOf, recordBytes, none, tiles, all}
 use Rattle.layout.specs.Kinds.{aPart, means, same, oneOf, blank}
 use Rattle.layout.specs.inner.Steps.{mayBe}
-use Rattle.layout.specs.inner.Masks.{maskOf, domainMask, highestIn, between, free, lowsOf, highsOf, within, Right}
+use Rattle.layout.specs.inner.Masks.{bytesFrom, maskOf, domainMask, highestIn, between, free, lowsOf, highsOf, within, Right}
 use Rattle.layout.specs.laws.Bytes.{and-left, and-right, same-self, same-true, length-places}
-use Rattle.layout.specs.laws.Texts.{so, other-kind}
+use Rattle.layout.specs.laws.Contents.{so, other-kind}
 use Rattle.layout.specs.laws.Tiling.{tiled, head, ends, All, at}
 use Rattle.layout.specs.laws.Sound.{width, Sound, sounds}
 use Rattle.layout.specs.laws.Columns.{in-record}
@@ -122,7 +122,7 @@ module _ (d : Direction) (place : ℕ) (bs whole : List ℕ) where
   kind-kept (Exact content) m b e = kept 12 (exact-kept content m b)
   kind-kept (OneOf domain) m b e = kept 14 (domain-kept domain m b e)
   kind-kept Service m b e = cc
-  kind-kept Form m b e = cc
+  kind-kept Form m b e = sym done
   kind-kept Barcode m b e = cc
   kind-kept (RecordType x) m b e = kept 6 (exact-kept (x ∷ []) m b)
   kind-kept (Segment x) m b e = kept 11 (exact-kept (x ∷ []) m b)

@@ -16,7 +16,7 @@ use Rattle.checker.specs.Order.{ended}
 use Rattle.checker.specs.Line.{recordIn, lineIs}
 use Rattle.checker.specs.Machine.{start, directionOf, next, stepOf}
 use Rattle.checker.specs.Calls.{Reached, after-line, Through, here, further, left}
-use Rattle.checker.specs.declared.order.Due.the-variants.{Line}
+use Rattle.checker.specs.declared.order.Reading.the-variants.{Line}
 use Rattle.checker.specs.declared.order.Phase.the-variants.{Start}
 use Rattle.checker.specs.declared.Checker.{Checker}
 use Rattle.checker.specs.laws.Edges.{Follows, heads, follows-by, type-read}

@@ -1,12 +1,12 @@
 -- Demand 3: an accepted file with another byte at a guarded place is refused. Assumes nothing.
 use mathlib.Core.Path.{_≡_, refl, sym, ap, _∙_, subst}
 use mathlib.Core.Logic.{_≢_, _⊎_, inl, inr}
-use mathlib.Core.List.{List, [], _∷_, _++_}
+use mathlib.Core.List.{List, [], _∷_, _++_, flatten}
 use Prim.Native.Nat.{ℕ, zero, suc, _+_, _*_, _-_, _≤_, _<_}
 use native.Mathlib.Decide.{decLe}
 use native.Mathlib.Omega.{arith}
 use lib.ListN.{length, getD, take, drop, set, length-take, length-drop, length-set, length-append, take-append-drop}
-use lib.Seq.{length-take-le, take-at, take-take, getD-take, take-set-le, take-set-lt, drop-set-lt, drop-set-add, getD-set-same}
+use lib.Seq.{length-take-le, take-at, getD-at, take-take, getD-take, take-set-le, take-set-lt, drop-set-lt, drop-set-add, getD-set-same}
 use Rattle.answer.specs.declared.Refusal.{Refusal}
 use Rattle.digits.specs.Digits.{digitByte, place}
 use Rattle.layout.specs.Table.{typeOf, typePlace, segmentPlace, recordBytes, bankField, batchField, numberField}
@@ -18,9 +18,9 @@ use Rattle.checker.specs.Machine.{start}
 use Rattle.checker.specs.File.{linesOf, checkFile}
 use Rattle.checker.specs.Calls.{at-start, left}
 use Rattle.checker.specs.laws.Details.{asked, detail-of}
-use Rattle.checker.specs.laws.Runs.{no-lines, next-line, lines-append}
+use Rattle.checker.specs.laws.Runs.{no-lines, next-line, lines-append, lines-joined}
 use Rattle.checker.specs.laws.Verdict.{Passed, accepted-file}
-use Rattle.checker.specs.declared.order.Due.the-variants.{Line}
+use Rattle.checker.specs.declared.order.Reading.the-variants.{Line}
 use Rattle.checker.specs.declared.totals.Totals.{Totals}
 use Rattle.checker.specs.declared.Checker.{Checker}
 use Rattle.checker.specs.declared.file.Outcome.{Outcome}
@@ -168,6 +168,14 @@ module _ (n : ℕ) (file : List ℕ) (h : n * lineBytes < length file) where
   -- n lines come before
   take-earlier : take n (linesOf file) ≡ earlier n file
   take-earlier = ap (take n) split ∙ take-at (earlier n file) _ n (lines-count n (take (n * lineBytes) file) front-long)
+
+  -- line n is the one behind them
+  pub line-there : getD (linesOf file) n [] ≡ lineAt n file
+  line-there = ap (λ (ls : List (List ℕ)). getD ls n []) split ∙ getD-at (earlier n file) _ _ [] n (lines-count n (take (n * lineBytes) file) front-long)
+
+  -- their bytes are the first ones of the file
+  pub joined-earlier : flatten (take n (linesOf file)) ≡ take (n * lineBytes) file
+  joined-earlier = ap flatten take-earlier ∙ lines-joined (take (n * lineBytes) file)
 
   -- the first line has the file's first record
   first-record : recordIn (getD (earlier n file ++ lineAt n file ∷ rest n file) 0 []) ≡ recordIn file

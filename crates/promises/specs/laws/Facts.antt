@@ -24,7 +24,7 @@ use Rattle.checker.specs.laws.Meaning.{LineAs, line-kept, kept-line, line-moves
 use Rattle.checker.specs.laws.Details.{asked, AllRead, Limit}
 use Rattle.checker.specs.laws.Asks.{bank-digits, record-fits, record-kept}
 use Rattle.checker.specs.laws.Reached.{reached}
-use Rattle.checker.specs.declared.order.Due.the-variants.{Line}
+use Rattle.checker.specs.declared.order.Reading.the-variants.{Line}
 use Rattle.checker.specs.declared.Checker.{Checker}
 use Rattle.writer.specs.laws.TakesLine.{carriage-return, line-feed}
 use Rattle.promises.specs.Grammar.{RightLine, Reads}

@@ -1,13 +1,13 @@
 -- How every call ends: of the checker in any state that calls lead to, of the writer behind any calls, with one record, and with digit
 -- strings; one statement for each. Assumes nothing.
 use mathlib.Core.Path.{_≡_, refl, sym, ap, _∙_}
-use mathlib.Core.Logic.{_⊎_, inl, inr}
+use mathlib.Core.Logic.{inl, inr}
 use mathlib.Core.Bool.{Bool, true, false, cond}
-use mathlib.Core.List.{List, [], _∷_}
+use mathlib.Core.List.{List, [], _∷_, _++_}
 use Prim.Native.Nat.{ℕ, suc, _+_}
 use native.Mathlib.Omega.{arith}
 use lib.ListN.{length, length-append}
-use Rattle.answer.specs.Rules.{Rule, refusedAs, firstBroken}
+use Rattle.answer.specs.Rules.{Rule, noLine, refusal, refusedAs, firstBroken}
 use Rattle.answer.specs.Output.{Writes, room}
 use Rattle.answer.specs.laws.Order.{never, broken-refused}
 use Rattle.answer.specs.laws.Only.{Only, join}
@@ -18,12 +18,13 @@ use Rattle.layout.specs.Record.{recordRules}
 use Rattle.layout.specs.declared.Direction.{Direction}
 use Rattle.layout.specs.declared.Record.{Record}
 use Rattle.fields.specs.Values.{recordOf, readRecord}
+use Rattle.checker.specs.Order.{ended}
 use Rattle.checker.specs.Line.{rulesOfLine}
 use Rattle.checker.specs.Machine.{lineOf, sound, stepped, answerTo, stepOf}
-use Rattle.checker.specs.File.{linesOf, unless, steps, finish}
-use Rattle.checker.specs.Calls.{Reached, after-line, here, further}
-use Rattle.checker.specs.laws.Meaning.{line-accepted}
-use Rattle.checker.specs.laws.Reached.{reached, never-guarded}
+use Rattle.checker.specs.File.{linesOf, unless, steps, leaving, run, endOf, outcome as outcomeOf, finish}
+use Rattle.checker.specs.Calls.{Reached, at-start, after-line, Through, here, further}
+use Rattle.checker.specs.laws.Meaning.{line-accepted, refused-leaves as line-leaves}
+use Rattle.checker.specs.laws.Reached.{reached, run-reached, never-guarded}
 use Rattle.checker.specs.laws.Verdict.{Stopped, at-line, at-end, refused-rest, through-line-no}
 use Rattle.checker.specs.declared.Checker.{Checker}
 use Rattle.checker.specs.declared.Stepped.{Stepped}
@@ -34,11 +35,11 @@ use Rattle.writer.specs.Refusals.{held}
 use Rattle.writer.specs.Outcome.{newWriter, answerOf, Wrote}
 use Rattle.writer.specs.Calls.{AllWhole, Lent, WholeCalls, left}
 use Rattle.writer.specs.laws.Answers.{refused-leaves}
-use Rattle.writer.specs.laws.RefusedLine.{Placed, on-no-line, on-a-line, refused-line}
+use Rattle.writer.specs.laws.RefusedLine.{LineNamed, on-no-line, on-a-line, refused-line}
 use Rattle.writer.specs.laws.Sequences as writer
 use Rattle.writer.specs.declared.Writer.{Writer}
 use Rattle.writer.specs.declared.Written.{Written}
-use Rattle.promises.specs.Calls.{table, InTable, Ends, Concludes, accepted, refused, OnNoLine, nothing, OneOfNext, EndsBehind, CheckerCalls, WriterCalls, RecordCalls, StringCalls}
+use Rattle.promises.specs.Calls.{table, InTable, Ends, Concludes, accepted, refused, OnNoLine, nothing, OneOfNext, EndsBehind, CheckerCalls, OnlyReached, NextOrNone, AnyCalls, WriterCalls, RecordCalls, StringCalls}
 use Rattle.promises.specs.laws.Tabled.{Alone, tested, record-rules, line-rules, barcode-rules, digit-line-rules, call-rules}
 
 -- ---- by rules of the table that are on no line
@@ -58,6 +59,12 @@ writes : {rules : List Rule} {n : ℕ} {new out after : List ℕ} {a : Answer}
 unfolding table
 writes {n} {out} {a} tabled w = by-rules (join tabled (tested (room n out ∷ []) tt)) a (w .answered) (λ r e. w .memory ∙ rw e)
 
+-- the same end, of what the call might change and leaves
+with-state : {A : Type 0} {before after : A} {B : Type 0} {x y : B} {L : ℕ → Type 0} (a : Answer) → Ends x y L a → ((r : Refusal) → a ≡ Refused r → after ≡ before)
+    → Ends before after L a
+with-state Accepted e kept = accepted
+with-state (Refused r) (refused t on k) kept = refused t on (kept r refl)
+
 -- ---- one record, and digit strings
 
 -- calls with one record of any kind, in either direction
@@ -73,7 +80,7 @@ record-calls r d = record {
 pub string-calls : StringCalls
 string-calls = record {
   check-barcode = λ bar. checks (barcode-rules bar);
-  check-line = λ line. checks (digit-line-rules line);
+  check-digit-line = λ line. checks (digit-line-rules line);
   to-line = λ bar w. writes (barcode-rules bar) w;
   to-barcode = λ line w. writes (digit-line-rules line) w;
 }
@@ -107,14 +114,22 @@ module _ {s : Checker} (c : Reached s) where
       go (outcome.Accepted t) e = accepted
       go (outcome.Refused r) e = let k = stopped (linesOf rest) r (refused-rest c rest r .0 e) in refused (k .0) (k .1)
 
--- many lines
-many : {s : Checker} (ls : List (List ℕ)) → Reached s → EndsBehind s ls (steps s ls)
+-- many lines, without the state: where they stop, and the answer there
+record Behind (s : Checker) (ls : List (List ℕ)) (a : Answer) : Type 0 where
+  earlier : List (List ℕ)
+  later : List (List ℕ)
+  before : Checker
+  are : ls ≡ earlier ++ later
+  through : Through s earlier before
+  ends : Ends nothing nothing (λ n. n ≡ lineOf before .0) a
+
+many : {s : Checker} (ls : List (List ℕ)) → Reached s → Behind s ls (steps s ls .answer)
 unfolding steps
 many {s} [] c = record { earlier = []; later = []; before = s; are = refl; through = here; ends = accepted }
 many {s} (l ∷ ls) c = go (stepOf s l .answer) refl (many ls (after-line l c))
   where
-    go : (a : Answer) → stepOf s l .answer ≡ a → EndsBehind (stepOf s l .state) ls (steps (stepOf s l .state) ls)
-        → EndsBehind s (l ∷ ls) (unless a (steps (stepOf s l .state) ls) (stepOf s l))
+    go : (a : Answer) → stepOf s l .answer ≡ a → Behind (stepOf s l .state) ls (steps (stepOf s l .state) ls .answer)
+        → Behind s (l ∷ ls) (unless a (steps (stepOf s l .state) ls) (stepOf s l) .answer)
     go Accepted e k = record {
       earlier = l ∷ k .earlier;
       later = k .later;
@@ -123,42 +138,110 @@ many {s} (l ∷ ls) c = go (stepOf s l .answer) refl (many ls (after-line l c))
       through = further (line-accepted s l (reached c) .0 e) (k .through);
       ends = k .ends;
     }
-    go (Refused r) e k = record { earlier = []; later = l ∷ ls; before = s; are = refl; through = here; ends = line-ends c l }
+    go (Refused r) e k =
+        record { earlier = []; later = l ∷ ls; before = s; are = refl; through = here; ends = with-state (stepOf s l .answer) (line-ends c l) (λ x q. refl) }
 
--- calls on the checker, in every state that calls lead to; those with many lines lead to such states too (`run-reached`)
+-- in one call
+in-one-call : {s : Checker} {L : ℕ → Type 0} (x : Stepped) → Ends nothing nothing L (x .answer) → Ends s (leaving s x .state) L (leaving s x .answer)
+in-one-call {s} {L} x e = go (x .answer) refl e
+  where
+    go : (a : Answer) → x .answer ≡ a → Ends nothing nothing L a → Ends s (unless a x (stepped s a) .state) L (unless a x (stepped s a) .answer)
+    go Accepted q k = rw q accepted
+    go (Refused r) q (refused t on k) = refused t on refl
+
+lines-end : {s : Checker} → Reached s → (part : List ℕ) → EndsBehind s (linesOf part) (run s part)
+lines-end {s} c part =
+    let k = many (linesOf part) c in
+    record {
+      earlier = k .earlier;
+      later = k .later;
+      before = k .before;
+      are = k .are;
+      through = k .through;
+      ends = in-one-call (steps s (linesOf part)) (k .ends);
+    }
+
+-- no public function gives another state
+pub states-reached : OnlyReached
+states-reached = record {
+  at-start = at-start;
+  by-line = λ c l. after-line l c;
+  by-lines = λ c part. run-reached part c;
+  in-writer = writer.checker-reached;
+}
+
+-- calls on the checker, in every state that calls lead to; they lead to such states again (`states-reached`)
 pub checker-calls : {s : Checker} → Reached s → CheckerCalls s
-checker-calls c = record { line = line-ends c; lines = λ part. many (linesOf part) c; end = end c }
+checker-calls c = record { line = line-ends c; lines = lines-end c; end = end c }
 
--- in any other state too, such as a caller makes of records that it has not tested: a state that no run produces is refused by 51 on no line
-pub any-state : (s : Checker) (l : List ℕ) → Ends s (stepOf s l .state) (λ n. (n ≡ lineOf s .0) ⊎ (n ≡ 0)) (stepOf s l .answer)
+-- ---- in any state, though no calls lead to another
+
+any-line : (s : Checker) (l : List ℕ) → Ends s (stepOf s l .state) (NextOrNone s) (stepOf s l .answer)
 unfolding table stepOf
-any-state s l = go (sound s) (firstBroken (rulesOfLine s l)) refl
+any-line s l = go (sound s) (firstBroken (rulesOfLine s l)) refl
   where
     guard : Stepped
     guard = stepped s (refusedAs 51 0)
 
     go : (b : Bool) (a : Answer) → firstBroken (rulesOfLine s l) ≡ a
-        → Ends s (cond b (answerTo a s l) guard .state) (λ n. (n ≡ lineOf s .0) ⊎ (n ≡ 0)) (cond b (answerTo a s l) guard .answer)
+        → Ends s (cond b (answerTo a s l) guard .state) (NextOrNone s) (cond b (answerTo a s l) guard .answer)
     go true Accepted e = accepted
     go true (Refused r) e = refused (line-rules s l .broken r e .1) (inl refl) refl
     go false a e = refused tt (inr refl) refl
 
+any-lines : (s : Checker) (ls : List (List ℕ)) → Ends nothing nothing (NextOrNone (steps s ls .state)) (steps s ls .answer)
+unfolding steps
+any-lines s [] = accepted
+any-lines s (l ∷ ls) = go (stepOf s l .answer) refl (any-lines (stepOf s l .state) ls)
+  where
+    on : Stepped
+    on = steps (stepOf s l .state) ls
+
+    go : (a : Answer) → stepOf s l .answer ≡ a → Ends nothing nothing (NextOrNone (on .state)) (on .answer)
+        → Ends nothing nothing (NextOrNone (unless a on (stepOf s l) .state)) (unless a on (stepOf s l) .answer)
+    go Accepted e k = k
+    go (Refused r) e k = rw (line-leaves s l r e) (with-state (stepOf s l .answer) (any-line s l) (λ x q. refl))
+
+any-end : (s : Checker) → Concludes (NextOrNone s) (endOf s)
+unfolding table endOf
+any-end s = go (sound s) (ended (s .phase))
+  where
+    go : (b e : Bool) → Concludes (NextOrNone s) (cond b (cond e (outcome.Accepted (s .closed)) (outcome.Refused (refusal 2 (lineOf s) 0))) (outcome.Refused (refusal 51 noLine 0)))
+    go true true = accepted
+    go true false = refused tt (inl refl)
+    go false e = refused tt (inr refl)
+
+any-rest : (s : Checker) (rest : List ℕ) → Concludes (NextOrNone (steps s (linesOf rest) .state)) (finish s rest)
+unfolding finish
+any-rest s rest = go (steps s (linesOf rest)) (any-lines s (linesOf rest))
+  where
+    go : (x : Stepped) → Ends nothing nothing (NextOrNone (x .state)) (x .answer) → Concludes (NextOrNone (x .state)) (outcomeOf (x .answer) (endOf (x .state)))
+    go x e = by (x .answer) e
+      where
+        by : (a : Answer) → Ends nothing nothing (NextOrNone (x .state)) a → Concludes (NextOrNone (x .state)) (outcomeOf a (endOf (x .state)))
+        by Accepted k = any-end (x .state)
+        by (Refused r) (refused t on k) = refused t on
+
+-- every call on the checker ends so in any state: one that no calls lead to is refused by 51 on no line
+pub any-state : (s : Checker) → AnyCalls s
+any-state s = record { line = any-line s; lines = λ part. in-one-call (steps s (linesOf part)) (any-lines s (linesOf part)); end = any-rest s }
+
 -- ---- the writer
 
 -- in a state that none of its rules guards against
-module _ {w : Writer} (ok : held (w .machine) ≡ true) where
+module _ {w : Writer} (ok : held (w .checker) ≡ true) where
   -- the line of a refusal
-  placed : {c : Call} {r : Refusal} → Placed w c r → OneOfNext (length (recordsOf c)) (w .machine) (r .line .0)
+  placed : {c : Call} {r : Refusal} → LineNamed w c r → OneOfNext (length (recordsOf c)) (w .checker) (r .line .0)
   placed (on-no-line q e) = never (sym q ∙ ok)
   placed (on-a-line q low high) = (low, high)
 
   -- a call's rules answer
   call-ends : {c : Call} {out after : List ℕ} {x : Written} → AllWhole (recordsOf c) → Wrote w c out after x
-      → Ends {A = Writer × List ℕ} (w, out) (x .state, after) (OneOfNext (length (recordsOf c)) (w .machine)) (x .answer)
+      → Ends {A = Writer × List ℕ} (w, out) (x .state, after) (OneOfNext (length (recordsOf c)) (w .checker)) (x .answer)
   unfolding answerOf
   call-ends {c} {out} {after} {x} whole k = go (x .answer) refl
     where
-      go : (a : Answer) → x .answer ≡ a → Ends {A = Writer × List ℕ} (w, out) (x .state, after) (OneOfNext (length (recordsOf c)) (w .machine)) a
+      go : (a : Answer) → x .answer ≡ a → Ends {A = Writer × List ℕ} (w, out) (x .state, after) (OneOfNext (length (recordsOf c)) (w .checker)) a
       go Accepted e = accepted
       go (Refused r) e =
           let q = sym (k .answered) ∙ e in

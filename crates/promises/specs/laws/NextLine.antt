@@ -1,4 +1,4 @@
--- Changes that only later lines show: the file header's bank, a note for a payment's first record, the amount of a credit. Assumes nothing.
+-- Changes that only later lines show: the file header's bank, a Z for a payment's first record, the amount of a credit. Assumes nothing.
 use mathlib.Core.Path.{_≡_, refl, sym, ap, _∙_, subst, subst₂}
 use mathlib.Core.Logic.{_≢_, _⊎_, inl, inr, ⊎-elim}
 use mathlib.Core.Bool.{true}
@@ -23,12 +23,12 @@ use Rattle.checker.specs.Totals.{add}
 use Rattle.checker.specs.Line.{recordIn, lineIs}
 use Rattle.checker.specs.Machine.{next}
 use Rattle.checker.specs.declared.order.Phase.{Phase}
-use Rattle.checker.specs.declared.order.Phase.the-variants.{Headed, Begun, Noted}
+use Rattle.checker.specs.declared.order.Phase.the-variants.{Headed, Begun, BehindZ}
 use Rattle.checker.specs.declared.Checker.{Checker}
 use Rattle.promises.specs.Grammar.{RightLine}
 use Rattle.promises.specs.Guarded.{In}
-use Rattle.checker.specs.laws.Edges.{Begins, by-A, by-J, by-B, by-J52, Follows, first-batch, goes-on, notes, pays-behind, pays-noted, closes-paid, closes-noted, begins-detail, begins-moves}
-use Rattle.checker.specs.laws.Details.{AllRead, Open, at-begun, at-paid, at-noted, detail-of}
+use Rattle.checker.specs.laws.Edges.{Begins, by-A, by-J, by-B, by-J52, Follows, first-batch, goes-on, adds-z, pays-behind, pays-behind-z, closes-paid, closes-behind-z, begins-detail, begins-moves}
+use Rattle.checker.specs.laws.Details.{AllRead, Open, at-begun, at-paid, at-behind-z, detail-of}
 use Rattle.checker.specs.laws.Asks.{letter-at}
 use Rattle.promises.specs.laws.Facts.{Fits}
 use Rattle.promises.specs.laws.Differ.{Differ, not-worth}
@@ -60,7 +60,7 @@ module _ {p : ℕ} {s : Checker} {ls : List (List ℕ)} (l l′ : List ℕ) (d :
       not-worth d bankField (omega arith) (right-at (g .fitting .right) 0 (lit≤ tt) .0) (right-at (g′ .fitting .right) 0 (lit≤ tt) .0)
       (one-bank ls refl refl (g .rest) (g′ .rest))
 
--- ---- a note for a payment's first record: the second record can't stand behind it
+-- ---- a Z for a payment's first record: the second record can't stand behind it
 
 -- place 15 of J52, and of J
 blank-or-digit : (bs : List ℕ) → isFixed (run blank) bs ≡ true → oneOf (digitByte 0 ∷ digitByte 9 ∷ []) bs ≡ true → ⊥
@@ -70,26 +70,26 @@ blank-or-digit bs h k =
     never (subst (λ (w : List ℕ). oneOf (digitByte 0 ∷ digitByte 9 ∷ []) w ≡ true) (sym is) k)
 
 -- it is neither a first record nor the batch trailer
-not-second : {d d′ e e′ : Direction} {b : Batch} {r r′ : Record} (l : List ℕ) → Follows d b Begun r → Follows d′ b Noted r′
+not-second : {d d′ e e′ : Direction} {b : Batch} {r r′ : Record} (l : List ℕ) → Follows d b Begun r → Follows d′ b BehindZ r′
     → place typePlace (recordIn l) ≡ typeOf r → place typePlace (recordIn l) ≡ typeOf r′ → RightLine r e l → RightLine r′ e′ l → ⊥
 unfolding fieldsOf AllKept
-not-second l (goes-on by-B) (pays-noted by-A) t t′ a a′ =
+not-second l (goes-on by-B) (pays-behind-z by-A) t t′ a a′ =
     omega (arith, letter-at SegmentB _ (recordIn l) (a .fields) refl refl, letter-at SegmentA _ (recordIn l) (a′ .fields) refl refl)
-not-second l (goes-on by-J52) (pays-noted by-J) t t′ a a′ = blank-or-digit (places 15 15 (recordIn l)) (right-at a 5 (lit≤ tt) .0) (right-at a′ 5 (lit≤ tt) .0)
-not-second l (goes-on by-B) closes-noted t t′ a a′ = omega arith
-not-second l (goes-on by-J52) closes-noted t t′ a a′ = omega arith
+not-second l (goes-on by-J52) (pays-behind-z by-J) t t′ a a′ = blank-or-digit (places 15 15 (recordIn l)) (right-at a 5 (lit≤ tt) .0) (right-at a′ 5 (lit≤ tt) .0)
+not-second l (goes-on by-B) closes-behind-z t t′ a a′ = omega arith
+not-second l (goes-on by-J52) closes-behind-z t t′ a a′ = omega arith
 
--- no line stands both behind a first record and behind a note
-begun-or-noted : (ls : List (List ℕ)) {s s′ : Checker} {b : Batch} → s .phase ≡ Begun → s′ .phase ≡ Noted → s .batch ≡ b → s′ .batch ≡ b
+-- no line stands both behind a first record and behind a Z
+begun-or-behind-z : (ls : List (List ℕ)) {s s′ : Checker} {b : Batch} → s .phase ≡ Begun → s′ .phase ≡ BehindZ → s .batch ≡ b → s′ .batch ≡ b
     → Ends s ls → Ends s′ ls → ⊥
-begun-or-noted [] p p′ q q′ e e′ = never (rw p at (at-last e))
-begun-or-noted (l ∷ ls) p p′ q q′ e e′ =
+begun-or-behind-z [] p p′ q q′ e e′ = never (rw p at (at-last e))
+begun-or-behind-z (l ∷ ls) p p′ q q′ e e′ =
     let g = goes e .1 in
     let g′ = goes e′ .1 in
     not-second l (follows-at q p (g .follows)) (follows-at q′ p′ (g′ .follows)) (g .typed) (g′ .typed) (g .fitting .right) (g′ .fitting .right)
 
-pub not-noted : {r : Record} {s : Checker} {ls : List (List ℕ)} (l l′ : List ℕ) → Begins (s .batch) r → Goes r s l ls → Goes SegmentZ s l′ ls → ⊥
-not-noted {s} {ls} l l′ h g g′ = let k = begins-moves s (recordIn l) h in begun-or-noted ls (k .phase) refl (k .batch) refl (g .rest) (g′ .rest)
+pub not-z : {r : Record} {s : Checker} {ls : List (List ℕ)} (l l′ : List ℕ) → Begins (s .batch) r → Goes r s l ls → Goes SegmentZ s l′ ls → ⊥
+not-z {s} {ls} l l′ h g g′ = let k = begins-moves s (recordIn l) h in begun-or-behind-z ls (k .phase) refl (k .batch) refl (g .rest) (g′ .rest)
 
 -- ---- the amount of a credit: the batch trailer has the sum
 
@@ -97,16 +97,16 @@ not-noted {s} {ls} l l′ h g g′ = let k = begins-moves s (recordIn l) h in be
 trailer-or-detail : {d : Direction} {b : Batch} {p : Phase} {r : Record} → Open p → Follows d b p r → (r ≡ BatchTrailer) ⊎ (typeOf r ≡ digitByte 3)
 trailer-or-detail at-begun (goes-on by-B) = inr refl
 trailer-or-detail at-begun (goes-on by-J52) = inr refl
-trailer-or-detail at-paid (notes e) = inr refl
+trailer-or-detail at-paid (adds-z e) = inr refl
 trailer-or-detail at-paid (pays-behind g) = inr (begins-detail g)
 trailer-or-detail at-paid closes-paid = inl refl
-trailer-or-detail at-noted (pays-noted g) = inr (begins-detail g)
-trailer-or-detail at-noted closes-noted = inl refl
+trailer-or-detail at-behind-z (pays-behind-z g) = inr (begins-detail g)
+trailer-or-detail at-behind-z closes-behind-z = inl refl
 
 not-last : {p : Phase} → Open p → ended p ≡ true → ⊥
 not-last at-begun e = never e
 not-last at-paid e = never e
-not-last at-noted e = never e
+not-last at-behind-z e = never e
 
 -- two states in a batch that differ in their cents
 record Twins (s s′ : Checker) : Type 0 where

@@ -23,20 +23,20 @@ use Rattle.checker.specs.declared.order.Phase.{Phase}
 use Rattle.checker.specs.declared.Checker.{Checker}
 use Rattle.promises.specs.Grammar.{RightLine}
 use Rattle.promises.specs.Guarded.{In}
-use Rattle.checker.specs.laws.Edges.{Begins, by-A, by-J, GoesOn, by-B, by-J52, Follows, heads, first-batch, first-payment, goes-on, notes, pays-behind, pays-noted, closes-paid, closes-noted, next-batch, ends, begins-detail}
+use Rattle.checker.specs.laws.Edges.{Begins, by-A, by-J, GoesOn, by-B, by-J52, Follows, heads, first-batch, first-payment, goes-on, adds-z, pays-behind, pays-behind-z, closes-paid, closes-behind-z, next-batch, ends, begins-detail}
 use Rattle.checker.specs.laws.Details.{Asked, AllRead, detail-of}
 use Rattle.promises.specs.laws.Facts.{Fits}
 use Rattle.promises.specs.laws.Differ.{Differ, turned, kept}
 use Rattle.promises.specs.laws.SameLine.{right-at}
 use Rattle.promises.specs.laws.Behind.{Goes}
-use Rattle.promises.specs.laws.NextLine.{not-noted}
+use Rattle.promises.specs.laws.NextLine.{not-z}
 
 -- ---- two records that may follow at one state
 
 data Apart (b : Batch) : Record → Record → Type 0 where
   pays-or-closes : {r : Record} → typeOf r ≡ digitByte 3 → Apart b r BatchTrailer
   opens-or-ends : Apart b BatchHeader FileTrailer
-  begins-or-notes : {r : Record} → Begins b r → Apart b r SegmentZ
+  begins-or-z : {r : Record} → Begins b r → Apart b r SegmentZ
 
 data Two (b : Batch) (r r′ : Record) : Type 0 where
   one : r ≡ r′ → Two b r r′
@@ -56,19 +56,19 @@ two heads heads = one refl
 two first-batch first-batch = one refl
 two (first-payment g) (first-payment h) = one-begins g h
 two (goes-on g) (goes-on h) = one-goes-on g h
-two (notes e) (notes h) = one refl
-two (notes e) (pays-behind h) = apart-turned (begins-or-notes h)
-two (notes e) closes-paid = apart (pays-or-closes refl)
-two (pays-behind g) (notes h) = apart (begins-or-notes g)
+two (adds-z e) (adds-z h) = one refl
+two (adds-z e) (pays-behind h) = apart-turned (begins-or-z h)
+two (adds-z e) closes-paid = apart (pays-or-closes refl)
+two (pays-behind g) (adds-z h) = apart (begins-or-z g)
 two (pays-behind g) (pays-behind h) = one-begins g h
 two (pays-behind g) closes-paid = apart (pays-or-closes (begins-detail g))
-two closes-paid (notes h) = apart-turned (pays-or-closes refl)
+two closes-paid (adds-z h) = apart-turned (pays-or-closes refl)
 two closes-paid (pays-behind h) = apart-turned (pays-or-closes (begins-detail h))
 two closes-paid closes-paid = one refl
-two (pays-noted g) (pays-noted h) = one-begins g h
-two (pays-noted g) closes-noted = apart (pays-or-closes (begins-detail g))
-two closes-noted (pays-noted h) = apart-turned (pays-or-closes (begins-detail h))
-two closes-noted closes-noted = one refl
+two (pays-behind-z g) (pays-behind-z h) = one-begins g h
+two (pays-behind-z g) closes-behind-z = apart (pays-or-closes (begins-detail g))
+two closes-behind-z (pays-behind-z h) = apart-turned (pays-or-closes (begins-detail h))
+two closes-behind-z closes-behind-z = one refl
 two next-batch next-batch = one refl
 two next-batch ends = apart opens-or-ends
 two ends next-batch = apart-turned opens-or-ends
@@ -109,7 +109,7 @@ module _ {p : ℕ} (s : Checker) (l l′ : List ℕ) (d : Differ p (recordIn l) 
   not-apart : {r r′ : Record} {ls : List (List ℕ)} → Apart (s .batch) r r′ → Goes r s l ls → Goes r′ s l′ ls → ⊥
   not-apart (pays-or-closes e) g g′ = not-closes e (g .fitting) (g′ .fitting) (aside numberField (λ k. omega arith) (λ q. omega (arith, g .typed, g′ .typed)))
   not-apart opens-or-ends g g′ = not-ends (g .fitting) (g′ .fitting) (aside batchField (λ k. omega arith) (λ q. omega (arith, g .typed, g′ .typed)))
-  not-apart (begins-or-notes h) g g′ = not-noted l l′ h g g′
+  not-apart (begins-or-z h) g g′ = not-z l l′ h g g′
 
 pub one-record : {p : ℕ} {s : Checker} {r r′ : Record} {ls : List (List ℕ)} (l l′ : List ℕ)
     → Differ p (recordIn l) (recordIn l′) → Goes r s l ls → Goes r′ s l′ ls → r ≡ r′

@@ -22,7 +22,7 @@ use Rattle.checker.specs.Machine.{state, start, directionOf, next}
 use Rattle.checker.specs.inner.Steps.{Bounded}
 use Rattle.checker.specs.Calls.{Reached, at-start, after-line, Through, here, further}
 use Rattle.checker.specs.declared.order.Phase.{Phase}
-use Rattle.checker.specs.declared.order.Phase.the-variants.{Start, Headed, Opened, Begun, Paid, Noted, Closed, Ended}
+use Rattle.checker.specs.declared.order.Phase.the-variants.{Start, Headed, Opened, Begun, Paid, BehindZ, Closed, Ended}
 use Rattle.checker.specs.declared.totals.Totals.{Totals}
 use Rattle.checker.specs.declared.Checker.{Checker}
 use Rattle.checker.specs.laws.Kept.{kept-bounded}
@@ -30,10 +30,10 @@ use Rattle.checker.specs.laws.Reached.{reached-kept}
 use Rattle.checker.specs.laws.Verdict.{through-reached}
 use Rattle.checker.specs.laws.Sums.{Same, same-totals}
 use Rattle.promises.specs.Grammar.{Reads, Numbered, Details, no-details, detail, RightBatch, Batches, no-batches, batch, RightFile}
-use Rattle.checker.specs.laws.Edges.{Begins, by-A, by-J, GoesOn, by-B, by-J52, Follows, heads, first-batch, first-payment, goes-on, notes, pays-behind, pays-noted, closes-paid, closes-noted, next-batch, ends, follows-by}
+use Rattle.checker.specs.laws.Edges.{Begins, by-A, by-J, GoesOn, by-B, by-J52, Follows, heads, first-batch, first-payment, goes-on, adds-z, pays-behind, pays-behind-z, closes-paid, closes-behind-z, next-batch, ends, follows-by}
 use Rattle.checker.specs.laws.Details.{inDetail, AllRead, detail-of}
 use Rattle.promises.specs.laws.Facts.{Fits, taken, header-bank, either-direction}
-use Rattle.promises.specs.laws.Shape.{batches-long, Tail, stops-paid, stops-noted, steps, tail-payments}
+use Rattle.promises.specs.laws.Shape.{batches-long, Tail, stops-paid, stops-behind-z, steps, tail-payments}
 
 -- ---- what is left of a file behind a state
 
@@ -75,7 +75,7 @@ Left Headed s ls t = Same (s .current) none → (x : Later (s .dir) (s .bank) (s
 Left Opened s ls t = Within Opened s ls t
 Left Begun s ls t = Within Begun s ls t
 Left Paid s ls t = Within Paid s ls t
-Left Noted s ls t = Within Noted s ls t
+Left BehindZ s ls t = Within BehindZ s ls t
 Left Closed s ls t = Same (s .current) none → Later (s .dir) (s .bank) (s .closed) ls t
 Left Ended s ls t = (ls ≡ []) × (t ≡ s .closed)
 
@@ -252,11 +252,11 @@ module _ (s : Checker) (l : List ℕ) (ls : List (List ℕ)) (t : Totals) where
   left-by h first-batch x on = opened-by x on
   left-by h (first-payment f) x on = begins-by f (first-payment f) x on
   left-by h (goes-on f) x on = goes-on-by f (goes-on f) x on
-  left-by h (notes e) x on = detail-by (notes e) refl x on
+  left-by h (adds-z e) x on = detail-by (adds-z e) refl x on
   left-by h (pays-behind f) x on = begins-by f (pays-behind f) x on
-  left-by h (pays-noted f) x on = begins-by f (pays-noted f) x on
+  left-by h (pays-behind-z f) x on = begins-by f (pays-behind-z f) x on
   left-by h closes-paid x on = closed-by h stops-paid x on
-  left-by h closes-noted x on = closed-by h stops-noted x on
+  left-by h closes-behind-z x on = closed-by h stops-behind-z x on
   left-by h next-batch x on = λ e. opened-by x on e .0
   left-by h ends x on = λ e. ended-by x on
 
@@ -269,7 +269,7 @@ nothing-left Headed s e = never e
 nothing-left Opened s e = never e
 nothing-left Begun s e = never e
 nothing-left Paid s e = never e
-nothing-left Noted s e = never e
+nothing-left BehindZ s e = never e
 nothing-left Closed s e = never e
 nothing-left Ended s e = (refl, refl)
 

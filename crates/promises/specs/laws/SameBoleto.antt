@@ -25,7 +25,7 @@ use Rattle.layout.specs.declared.Direction.{Direction}
 use Rattle.layout.specs.declared.Record.the-variants.{SegmentJ}
 use Rattle.checker.specs.Line.{recordIn, cents, boletoRules}
 use Rattle.promises.specs.Grammar.{RightLine}
-use Rattle.promises.specs.Guarded.{On, In}
+use Rattle.promises.specs.Guarded.{placeOf, On, In}
 use Rattle.promises.specs.laws.Differ.{Differ, kept, not-worth}
 use Rattle.promises.specs.laws.SameLine.{right-at}
 
@@ -86,7 +86,7 @@ in-barcode check = (lit≤ tt, lit≤ tt)
 
 -- another byte in the line is another byte in its barcode
 pub not-barcode : {dir : Direction} {q : ℕ} (l : List ℕ) (p b : ℕ) → RightLine SegmentJ dir l → RightLine SegmentJ dir (set l (p - 1) b)
-    → GuardedInBarcode (part barcodeField (recordIn l)) q → p + 1 ≡ barcodeField .from + q → b ≢ place p (recordIn l) → ⊥
+    → GuardedInBarcode (part barcodeField (recordIn l)) q → p ≡ placeOf q barcodeField → b ≢ place p (recordIn l) → ⊥
 not-barcode {q = q} l p b a a′ g e ne =
     let c = in-barcode g in
     let rec = recordIn l in

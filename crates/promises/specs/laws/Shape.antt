@@ -19,9 +19,9 @@ use Rattle.checker.specs.Order.{payment, after}
 use Rattle.checker.specs.Totals.{add, paymentsOf}
 use Rattle.checker.specs.declared.totals.Totals.{Totals}
 use Rattle.checker.specs.declared.order.Phase.{Phase}
-use Rattle.checker.specs.declared.order.Phase.the-variants.{Start, Headed, Opened, Begun, Paid, Noted, Closed, Ended}
-use Rattle.promises.specs.Grammar.{Batches, no-batches, batch, Note, no-note, note, Payments, no-payments, pay}
-use Rattle.checker.specs.laws.Edges.{Begins, by-A, by-J, GoesOn, by-B, by-J52, Follows, heads, first-batch, first-payment, goes-on, notes, pays-behind, pays-noted, closes-paid, closes-noted, next-batch, ends}
+use Rattle.checker.specs.declared.order.Phase.the-variants.{Start, Headed, Opened, Begun, Paid, BehindZ, Closed, Ended}
+use Rattle.promises.specs.Grammar.{Batches, no-batches, batch, OptionalZ, without-z, with-z, Payments, no-payments, pay}
+use Rattle.checker.specs.laws.Edges.{Begins, by-A, by-J, GoesOn, by-B, by-J52, Follows, heads, first-batch, first-payment, goes-on, adds-z, pays-behind, pays-behind-z, closes-paid, closes-behind-z, next-batch, ends}
 
 -- batches count their lines
 pub batches-long : {d : Direction} {bank n : ℕ} {ls : List (List ℕ)} {t : Totals} → Batches d bank n ls t → t .records .0 ≡ length ls
@@ -32,15 +32,15 @@ batches-long (batch {ls = ls} {ms} b on) = omega (arith, length-append ls ms, ap
 -- so many payments, from a phase up to where the batch may close
 pub data Tail (d : Direction) (b : Batch) : Phase → ℕ → List Record → Type 0 where
   stops-paid : Tail d b Paid 0 []
-  stops-noted : Tail d b Noted 0 []
+  stops-behind-z : Tail d b BehindZ 0 []
   steps : {p : Phase} {r : Record} {k : ℕ} {rs : List Record}
       → Follows d b p r → typeOf r ≡ digitByte 3 → Tail d b (after r) k rs → Tail d b p (k + paymentsOf r) (r ∷ rs)
 
 -- ---- from edges to payments
 
--- two records, a note and the later payments are one payment more
-one-more : {d : Direction} {b : Batch} {k : ℕ} {r x : Record} {noted later : List Record} → Begins b r → GoesOn b x → Note d noted → Payments d b k later
-    → Payments d b (k + 1) (r ∷ x ∷ (noted ++ later))
+-- two records, a Z and the later payments are one payment more
+one-more : {d : Direction} {b : Batch} {k : ℕ} {r x : Record} {zs later : List Record} → Begins b r → GoesOn b x → OptionalZ d zs → Payments d b k later
+    → Payments d b (k + 1) (r ∷ x ∷ (zs ++ later))
 one-more by-A by-B n h = pay n h
 one-more by-J by-J52 n h = pay n h
 
@@ -51,7 +51,7 @@ Makes d b Headed k rs = Unit {0}
 Makes d b Opened k rs = Payments d b k rs × (1 ≤ k)
 Makes d b Begun k rs = (r : Record) → Begins b r → Payments d b (k + 1) (r ∷ rs)
 Makes d b Paid k rs = (r x : Record) → Begins b r → GoesOn b x → Payments d b (k + 1) (r ∷ x ∷ rs)
-Makes d b Noted k rs = Payments d b k rs
+Makes d b BehindZ k rs = Payments d b k rs
 Makes d b Closed k rs = Unit {0}
 Makes d b Ended k rs = Unit {0}
 
@@ -68,17 +68,17 @@ gone-on k rs by-J52 h r f = rw (add-zero k) (h r SegmentJ52 f by-J52)
 
 -- edge by edge; the types leave none but details
 makes : {d : Direction} {b : Batch} {p : Phase} {k : ℕ} {rs : List Record} → Tail d b p k rs → Makes d b p k rs
-makes stops-paid = λ r x f g. one-more f g no-note no-payments
-makes stops-noted = no-payments
+makes stops-paid = λ r x f g. one-more f g without-z no-payments
+makes stops-behind-z = no-payments
 makes (steps heads e t) = tt
 makes (steps first-batch e t) = tt
 makes (steps {k = k} {rs = rs} (first-payment f) e t) = begun k rs f (makes t)
 makes (steps {k = k} {rs = rs} (goes-on g) e t) = gone-on k rs g (makes t)
-makes (steps {k = k} (notes q) e t) = λ r x f g. rw (add-zero k) (one-more {noted = SegmentZ ∷ []} f g (rw q note) (makes t))
-makes (steps {k = k} {rs = rs} (pays-behind f) e t) = λ r x f′ g. one-more f′ g no-note (begun k rs f (makes t) .0)
-makes (steps {k = k} {rs = rs} (pays-noted f) e t) = begun k rs f (makes t) .0
+makes (steps {k = k} (adds-z q) e t) = λ r x f g. rw (add-zero k) (one-more {zs = SegmentZ ∷ []} f g (rw q with-z) (makes t))
+makes (steps {k = k} {rs = rs} (pays-behind f) e t) = λ r x f′ g. one-more f′ g without-z (begun k rs f (makes t) .0)
+makes (steps {k = k} {rs = rs} (pays-behind-z f) e t) = begun k rs f (makes t) .0
 makes (steps closes-paid e t) = absurd (omega arith)
-makes (steps closes-noted e t) = absurd (omega arith)
+makes (steps closes-behind-z e t) = absurd (omega arith)
 makes (steps next-batch e t) = tt
 makes (steps ends e t) = tt
 
@@ -87,24 +87,24 @@ tail-payments t = makes t
 
 -- ---- from payments to edges
 
--- a payment, from a phase where one may begin, and a note behind it
+-- a payment, from a phase where one may begin, and a Z behind it
 paid-tail : {d : Direction} {b : Batch} {p : Phase} {k : ℕ} {rs : List Record} → known b ≡ true → ((r : Record) → Begins b r → Follows d b p r)
     → Tail d b Paid k rs → Tail d b p (k + 1) (payment b ++ rs)
 paid-tail {b = Credit} {k = k} e may t = rw (← add-zero k) (steps (may SegmentA by-A) refl (steps (goes-on by-B) refl t))
 paid-tail {b = Boleto} {k = k} e may t = rw (← add-zero k) (steps (may SegmentJ by-J) refl (steps (goes-on by-J52) refl t))
 paid-tail {b = Unknown} e may t = never e
 
-noted-tail : {d : Direction} {b : Batch} {k : ℕ} {noted rs : List Record} → Note d noted → Tail d b Noted k rs → Tail d b Paid k rs
-    → Tail d b Paid k (noted ++ rs)
-noted-tail no-note n t = t
-noted-tail {k = k} note n t = rw (← add-zero k) (steps (notes refl) refl n)
+z-tail : {d : Direction} {b : Batch} {k : ℕ} {zs rs : List Record} → OptionalZ d zs → Tail d b BehindZ k rs → Tail d b Paid k rs
+    → Tail d b Paid k (zs ++ rs)
+z-tail without-z n t = t
+z-tail {k = k} with-z n t = rw (← add-zero k) (steps (adds-z refl) refl n)
 
 -- payments, from a phase where the batch may close if there is none
 later-tail : {d : Direction} {b : Batch} {p : Phase} {k : ℕ} {rs : List Record} → known b ≡ true → Payments d b k rs → (k ≡ 0 → Tail d b p 0 [])
     → ((r : Record) → Begins b r → Follows d b p r) → Tail d b p k rs
 later-tail e no-payments stop may = stop refl
 later-tail e (pay n ps) stop may =
-    paid-tail e may (noted-tail n (later-tail e ps (λ z. stops-noted) (λ r. pays-noted)) (later-tail e ps (λ z. stops-paid) (λ r. pays-behind)))
+    paid-tail e may (z-tail n (later-tail e ps (λ z. stops-behind-z) (λ r. pays-behind-z)) (later-tail e ps (λ z. stops-paid) (λ r. pays-behind)))
 
 pub payments-tail : {d : Direction} {b : Batch} {k : ℕ} {rs : List Record} → known b ≡ true → Payments d b k rs → 1 ≤ k → Tail d b Opened k rs
 payments-tail e ps some = later-tail e ps (λ z. absurd (omega arith)) (λ r. first-payment)

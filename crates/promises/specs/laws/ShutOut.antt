@@ -1,8 +1,8 @@
 -- The wrong checkers that the paper names fall to demands 2 and 3, whatever they are made of. Assumes nothing.
 use mathlib.Core.Path.{_≡_, refl, sym, _∙_}
-use mathlib.Core.Logic.{_≢_, _↔_}
+use mathlib.Core.Logic.{_≢_}
 use mathlib.Core.List.{List, []}
-use Prim.Native.Nat.{ℕ, suc}
+use Prim.Native.Nat.{ℕ, suc, _≤_}
 use native.Mathlib.Omega.{arith}
 use lib.Dec.{lit≤}
 use Rattle.answer.specs.declared.Refusal.{Refusal}
@@ -18,17 +18,12 @@ use Rattle.checker.specs.declared.file.Outcome.{Outcome}
 use Rattle.checker.specs.declared.file.Outcome.the-variants.{Accepted, Refused}
 use Rattle.promises.specs.Grammar.{Meets}
 use Rattle.promises.specs.Guarded.{first-eight, lineAt, GuardedIn, changed}
+use Rattle.promises.specs.Demands.{Demand2, Demand3}
+use Rattle.promises.specs.WrongOnes.{FirstBatchOnly}
 use Rattle.promises.specs.laws.Accepted.{accepted-exactly}
-use Rattle.promises.specs.laws.AcceptedFiles.{creditFile, credit-file}
+use Rattle.promises.specs.laws.AcceptedFiles.{creditFile, credit-file, returnFile, return-file}
 use Rattle.promises.specs.laws.Change.{change-refused}
-
--- the two demands, of any checker
-abbrev pub Demand2 : (List ℕ → Outcome) → Type 0
-Demand2 check = (file : List ℕ) (t : Totals) → check file ≡ Accepted t ↔ Meets file t
-
-abbrev pub Demand3 : (List ℕ → Outcome) → Type 0
-Demand3 check = (file : List ℕ) (t : Totals) (n p b : ℕ) → check file ≡ Accepted t → GuardedIn file n p → b ≢ place p (lineAt n file)
-    → (r : Refusal) × (check (changed file n p b) ≡ Refused r)
+use Rattle.promises.specs.laws.SecondBatch.{behindFirst, guarded-there, unseen}
 
 not-both : {t : Totals} {r : Refusal} → Accepted t ≡ Refused r → ⊥
 not-both e = absurd (let z : _≡_ {A = ℕ} 0 1 = cc in omega arith)
@@ -55,6 +50,23 @@ pub overlooks-2 : (check : List ℕ → Outcome) → Demand2 check → (file : L
 overlooks-2 check h file t n p b e g ne same =
     not-both (sym (same-accepted h (changed file n p b) t (same ∙ e)) ∙ change-refused file t n p b (same-accepted h file t e) g ne .1)
 
+-- one that looks at the first batch only, and accepts a file of two or more: a byte of the second is changed
+pub first-batch-only-3 : (check : List ℕ → Outcome) → FirstBatchOnly check → Demand3 check → (file : List ℕ) (t u : Totals) → Meets file t → 2 ≤ t .batches
+    → check file ≡ Accepted u → ⊥
+first-batch-only-3 check only h file t u m two e =
+    let n = behindFirst file t m two in
+    let b = suc (place 1 (lineAt n file)) in
+    overlooks-3 check h file u n 1 b e (guarded-there file t m two) (λ q. omega arith) (unseen file t m two check only b)
+
+-- by demand 2 it accepts the return of two batches
+pub first-batch-only-2 : (check : List ℕ → Outcome) → FirstBatchOnly check → Demand2 check → ⊥
+first-batch-only-2 check only h =
+    let m = accepted-exactly returnFile _ .0 return-file in
+    let n = behindFirst returnFile _ m (lit≤ tt) in
+    let b = suc (place 1 (lineAt n returnFile)) in
+    overlooks-2 check h returnFile _ n 1 b (h returnFile _ .1 m) (guarded-there returnFile _ m (lit≤ tt)) (λ q. omega arith)
+    (unseen returnFile _ m (lit≤ tt) check only b)
+
 -- the empty file is refused, with 2
 empty-refused : {t : Totals} → checkFile [] ≡ Accepted t → ⊥
 unfolding finish cut steps endOf sound
@@ -68,11 +80,11 @@ one-acceptance-2 check t all h = empty-refused (same-accepted h [] t (all []))
 abbrev zeros : List ℕ
 zeros = run (digitByte 0) lineBytes
 
-guarded-there : GuardedIn zeros 0 1
+zeros-guarded : GuardedIn zeros 0 1
 unfolding left
-guarded-there = record { which = FileHeader; read = refl; inside = lit≤ tt; guarded = first-eight (lit≤ tt, lit≤ tt) }
+zeros-guarded = record { which = FileHeader; read = refl; inside = lit≤ tt; guarded = first-eight (lit≤ tt, lit≤ tt) }
 
 pub one-acceptance-3 : (check : List ℕ → Outcome) (t : Totals) → ((file : List ℕ) → check file ≡ Accepted t) → Demand3 check → ⊥
 one-acceptance-3 check t all h =
     let b = suc (place 1 (lineAt 0 zeros)) in
-    overlooks-3 check h zeros t 0 1 b (all zeros) guarded-there (λ e. omega arith) (all _ ∙ sym (all zeros))
+    overlooks-3 check h zeros t 0 1 b (all zeros) zeros-guarded (λ e. omega arith) (all _ ∙ sym (all zeros))

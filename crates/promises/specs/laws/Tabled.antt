@@ -26,19 +26,21 @@ use Rattle.layout.specs.declared.Direction.the-variants.{Remittance, Return}
 use Rattle.layout.specs.declared.Record.{Record}
 use Rattle.layout.specs.declared.Record.the-variants.{FileHeader, BatchHeader, SegmentA, SegmentB, SegmentJ, SegmentJ52, SegmentZ, BatchTrailer, FileTrailer}
 use Rattle.layout.specs.declared.pairs.Batch.{Batch}
-use Rattle.checker.specs.Line.{within, boletoRules, houseRules, detailRules, rulesAs, recordIn, lineIs, dueRules, typeRules, lineRules, rulesOfLine}
+use Rattle.checker.specs.Line.{within, boletoRules, houseRules, detailRules, rulesAs, recordIn, lineIs, readingRules, typeRules, lineRules, rulesOfLine}
 use Rattle.checker.specs.Machine.{state, lineOf}
-use Rattle.checker.specs.declared.order.Due.{Due}
-use Rattle.checker.specs.declared.order.Due.the-variants.{Line, Nothing}
+use Rattle.checker.specs.declared.order.Reading.{Reading}
+use Rattle.checker.specs.declared.order.Reading.the-variants.{Line, Nothing}
 use Rattle.checker.specs.declared.order.Phase.{Phase}
 use Rattle.checker.specs.declared.totals.Totals.{Totals}
 use Rattle.checker.specs.declared.Checker.{Checker}
 use Rattle.writer.specs.Given.{Call, openFile, openBatch, pay, closeBatch, closeFile, recordsOf}
 use Rattle.writer.specs.Filling.{bytesOf}
-use Rattle.writer.specs.Refusals.{turnLimits, lastRules, dueIn, dueNow, givenRules, nextBy, allGiven, callRules}
+use Rattle.writer.specs.Refusals.{turnLimits, placedIn, lastRules, givenRules, nextBy, placedRules, callRules}
+use Rattle.writer.specs.laws.Placed.{placed-rules}
+use Rattle.writer.specs.inner.Placed.{expectedIn, expectedNow, allGiven}
 use Rattle.writer.specs.Calls.{Whole, AllWhole, no-more, and-then}
 use Rattle.writer.specs.laws.Lines.{bytes-length}
-use Rattle.writer.specs.declared.given.Detail.{Detail}
+use Rattle.fields.specs.declared.Fields.{Fields}
 use Rattle.writer.specs.declared.Writer.{Writer}
 use Rattle.promises.specs.Calls.{table, upTo, allowed, placesOf, InTable}
 
@@ -131,16 +133,16 @@ read r p Remittance b n x y rec = each (λ r. allAlone (rulesAs r (state p Remit
 read r p Return b n x y rec = each (λ r. allAlone (rulesAs r (state p Return b n x y) rec)) (tt, tt, tt, tt, tt, tt, tt, tt, tt) r
 
 -- whatever it is read as
-due : (d : Due) (s : Checker) (rec : List ℕ) → T (allAlone (dueRules d s rec))
-due (Line r) s rec = read r (s .phase) (s .dir) (s .batch) (s .bank) (s .closed) (s .current) rec
-due Nothing s rec = tt
+reading : (d : Reading) (s : Checker) (rec : List ℕ) → T (allAlone (readingRules d s rec))
+reading (Line r) s rec = read r (s .phase) (s .dir) (s .batch) (s .bank) (s .closed) (s .current) rec
+reading Nothing s rec = tt
 
 -- the rules of a line
 pub line-rules : (s : Checker) (line : List ℕ) → Only Alone (rulesOfLine s line)
 unfolding rulesOfLine lineRules typeRules table
 line-rules s line =
     let rec = recordIn line in
-    more (refl, tt) (more (refl, tt) (bytes rec (rw length-take (omega arith)) (tested _ (due (lineIs s rec) s rec))))
+    more (refl, tt) (more (refl, tt) (bytes rec (rw length-take (omega arith)) (tested _ (reading (lineIs s rec) s rec))))
 
 -- ---- digit strings
 
@@ -157,8 +159,8 @@ pub barcode-rules : (bar : List ℕ) → Only Alone (boleto.barcodeRules bar)
 unfolding boleto.barcodeRules table
 barcode-rules bar = head-rules barcodeDigits bar _ (lit≤ tt) tt
 
-pub digit-line-rules : (line : List ℕ) → Only Alone (boleto.lineRules line)
-unfolding boleto.lineRules boleto.checkRules table
+pub digit-line-rules : (line : List ℕ) → Only Alone (boleto.digitLineRules line)
+unfolding boleto.digitLineRules boleto.checkRules table
 digit-line-rules line = head-rules lineDigits line _ (lit≤ tt) tt
 
 -- ---- a call of the writer
@@ -170,18 +172,18 @@ given r Remittance rec = each (λ r. allAlone (rulesOf (fieldsOf r) Remittance r
 given r Return rec = each (λ r. allAlone (rulesOf (fieldsOf r) Return rec ++ houseRules r rec)) (tt, tt, tt, tt, tt, tt, tt, tt, tt) r
 
 -- the rules of a record that is given, and of all of a call's
-given-rules : (due : Bool) (s : Checker) (g : Detail) → Whole (g .fields) → Only Alone (givenRules due (g .which) (s .dir) (bytesOf s g))
+given-rules : (expected : Bool) (s : Checker) (g : Fields) → Whole g → Only Alone (givenRules expected (g .which) (s .dir) (bytesOf s g))
 unfolding givenRules table
-given-rules due s g whole = bytes (bytesOf s g) (omega (arith, bytes-length s g whole)) (tested _ (given (g .which) (s .dir) (bytesOf s g)))
+given-rules expected s g whole = bytes (bytesOf s g) (omega (arith, bytes-length s g whole)) (tested _ (given (g .which) (s .dir) (bytesOf s g)))
 
-all-given : (due : List (List Record)) (s : Checker) {gs : List Detail} → AllWhole gs → Only InTable (allGiven due s gs)
+all-given : (expected : List (List Record)) (s : Checker) {gs : List Fields} → AllWhole gs → Only InTable (allGiven expected s gs)
 unfolding allGiven
-all-given due s no-more = none
-all-given due s (and-then {g} whole rest) =
-    join (on-line (lineOf s) _ (given-rules (isOneOf (g .which) (dueNow due)) s g whole)) (all-given (drop 1 due) (nextBy s g) rest)
+all-given expected s no-more = none
+all-given expected s (and-then {g} whole rest) =
+    join (on-line (lineOf s) _ (given-rules (isOneOf (g .which) (expectedNow expected)) s g whole)) (all-given (drop 1 expected) (nextBy s g) rest)
 
 -- what a call is asked before its records, and behind them
-around : (w : Writer) (c : Call) (out : List ℕ) → T (allAlone (turnLimits c (w .machine))) × T (allAlone (lastRules c w out))
+around : (w : Writer) (c : Call) (out : List ℕ) → T (allAlone (turnLimits c (w .checker))) × T (allAlone (lastRules c w out))
 unfolding table
 around w (openFile v) out = (tt, tt)
 around w (openBatch v) out = (tt, tt)
@@ -193,7 +195,8 @@ around w (closeFile v) out = (tt, tt)
 pub call-rules : (w : Writer) (c : Call) (out : List ℕ) → AllWhole (recordsOf c) → Only InTable (callRules w c out)
 unfolding callRules table
 call-rules w c out whole =
-    let s = w .machine in
+    let s = w .checker in
     let t = around w c out in
+    let each : Only InTable (placedRules s (placedIn c s)) = rw (placed-rules c s) (all-given (expectedIn c s) s whole) in
     join (more tt (on-line (lineOf s) (turnLimits c s) (tested _ (t .0))))
-    (join (all-given (dueIn c s) s whole) (on-line (lineOf s) (lastRules c w out) (tested _ (t .1))))
+    (join each (on-line (lineOf s) (lastRules c w out) (tested _ (t .1))))

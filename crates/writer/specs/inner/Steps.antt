@@ -7,20 +7,25 @@ use Rattle.answer.specs.Rules.{Rule, rulesOnLine, refusedAs, firstBroken, andTh
 use Rattle.answer.specs.Output.{room}
 use Rattle.answer.specs.declared.Answer.{Answer}
 use Rattle.answer.specs.declared.Answer.the-variants.{Accepted}
+use Rattle.layout.specs.Table.{segmentPlace}
+use Rattle.layout.specs.Record.{byteRule}
 use Rattle.layout.specs.declared.Direction.{Direction}
 use Rattle.layout.specs.declared.Record.{Record}
 use Rattle.layout.specs.declared.pairs.Batch.{Batch}
-use Rattle.fields.specs.Values.{recordOf}
+use Rattle.fields.specs.Values.{recordOf, madeOf}
 use Rattle.fields.specs.declared.Fields.{Fields}
+use Rattle.fields.specs.declared.writing.Made.{Made}
 use Rattle.checker.specs.Order.{first, second}
 use Rattle.checker.specs.Line.{mostPayments, lineFrom}
-use Rattle.checker.specs.Machine.{lineOf}
+use Rattle.checker.specs.Machine.{lineOf, sound}
+use Rattle.checker.specs.laws.Edges.{Follows}
+use Rattle.checker.specs.laws.Details.{Limit}
 use Rattle.checker.specs.declared.Checker.{Checker}
 use Rattle.writer.specs.Given.{thirdIn, recordsIn}
 use Rattle.writer.specs.Filling.{filled}
-use Rattle.writer.specs.Refusals.{turnRule, dueInPayment, sumRule, notes, givenOnLine, allGiven, nextBy, held}
+use Rattle.writer.specs.Refusals.{turnRule, turns, sumRule, zIn, givenOnLine, nextBy, held}
+use Rattle.writer.specs.inner.Placed.{expectedInPayment, allGiven}
 use Rattle.writer.specs.Outcome.{linesFor, behindAll, cursorBehind, stateAfter, outputAfter}
-use Rattle.writer.specs.declared.given.Detail.{Detail}
 use Rattle.writer.specs.declared.given.Payment.{Payment}
 use Rattle.writer.specs.declared.records.Tried.{Tried}
 use Rattle.writer.specs.declared.payments.TriedPayment.{TriedPayment}
@@ -31,59 +36,80 @@ use Rattle.writer.specs.declared.Written.{Written}
 abbrev pub turnOf : Checker → Bool → Answer → Answer
 turnOf s may limits = cond (held s) (onLine (lineOf s) (andThen (firstBroken (turnRule may ∷ [])) limits)) (refusedAs 51 0)
 
--- a record that was tried: its answer, the state behind it, and its fields with what the writer fills
-pub record Tries (due : Bool) (s : Checker) (g : Detail) (t : Tried) : Type 0 where
-  pub answered : t .answer ≡ firstBroken (givenOnLine due s g)
-  pub moved : t .machine ≡ nextBy s g
-  pub made : t .fields ≡ filled (g .which) s (g .fields)
+-- 4, 11 and the fields: of a record that is expected as it is made; of another 4 and 11
+abbrev pub kindAnswer : Bool → Made → Fields → Record → Answer
+kindAnswer expected m v r = cond expected (m .answer) (andThen (firstBroken (byteRule (recordOf r v) ∷ [])) (refusedAs 11 segmentPlace))
 
--- the line of a record from such fields
-abbrev pub lineWith : Record → Fields → List ℕ
-lineWith r v = lineFrom (recordOf r v)
+-- a state in which a record may be tried: it is sound, and where the record is the one that is expected, its line may follow within its limit
+pub record MayTry (expected : Bool) (r : Record) (s : Checker) : Type 0 where
+  pub is-sound : sound s ≡ true
+  pub follows : expected ≡ true → Follows (s .dir) (s .batch) (s .phase) r
+  pub limit : expected ≡ true → Limit r s
 
--- the lines of a payment from such fields
-abbrev pub linesThird : Payment → Fields → List (List ℕ)
-linesThird p c = cond (p .noted) (lineWith (p .third .which) c ∷ []) []
+-- a record that was tried: its answer; accepted, the state behind it; the record from its fields with what the writer fills
+pub record Tries (expected : Bool) (s : Checker) (g : Fields) (t : Tried) : Type 0 where
+  pub answered : t .answer ≡ firstBroken (givenOnLine expected s g)
+  pub moved : t .answer ≡ Accepted → t .checker ≡ nextBy s g
+  pub right : t .answer ≡ Accepted → t .made .answer ≡ Accepted
+  pub made : t .made ≡ madeOf (g .which) (s .dir) (filled (g .which) s g)
 
-abbrev pub linesWith : Payment → Fields → Fields → Fields → List (List ℕ)
-linesWith p a b c = lineWith (p .first .which) a ∷ lineWith (p .second .which) b ∷ linesThird p c
+-- the line of a record that is made
+abbrev pub lineWith : Made → List ℕ
+lineWith m = lineFrom (recordOf (m .fields .which) (m .fields))
+
+-- the lines of a payment's
+abbrev pub linesThird : Payment → Made → List (List ℕ)
+linesThird p c = cond (p .triple) (lineWith c ∷ []) []
+
+abbrev pub linesWith : Payment → Made → Made → Made → List (List ℕ)
+linesWith p a b c = lineWith a ∷ lineWith b ∷ linesThird p c
+
+-- all of them are right
+pub record AllRight (p : Payment) (a b c : Made) : Type 0 where
+  pub first : a .answer ≡ Accepted
+  pub second : b .answer ≡ Accepted
+  pub third : p .triple ≡ true → c .answer ≡ Accepted
 
 -- the third record of a payment, if there is one; accepted, the state behind it and its line
 pub record TriesThird (s : Checker) (d : Direction) (p : Payment) (t : Tried) : Type 0 where
-  pub answered : t .answer ≡ firstBroken (allGiven (notes d ∷ []) s (thirdIn p))
-  pub moved : t .machine ≡ behindAll s (thirdIn p)
-  pub made : linesThird p (t .fields) ≡ linesFor s (thirdIn p)
+  pub answered : t .answer ≡ firstBroken (allGiven (zIn d ∷ []) s (thirdIn p))
+  pub moved : t .answer ≡ Accepted → t .checker ≡ behindAll s (thirdIn p)
+  pub right : t .answer ≡ Accepted → p .triple ≡ true → t .made .answer ≡ Accepted
+  pub made : linesThird p (t .made) ≡ linesFor s (thirdIn p)
 
--- the second and the third; the first has its fields already
-pub record TriesLater (s : Checker) (d : Direction) (b : Batch) (p : Payment) (v : Fields) (t : TriedPayment) : Type 0 where
-  pub answered : t .answer ≡ firstBroken (allGiven (second b ∷ notes d ∷ []) s (p .second ∷ thirdIn p))
-  pub moved : t .answer ≡ Accepted → t .machine ≡ behindAll s (p .second ∷ thirdIn p)
-  pub kept : t .first ≡ v
-  pub made : t .answer ≡ Accepted → lineWith (p .second .which) (t .second) ∷ linesThird p (t .third) ≡ linesFor s (p .second ∷ thirdIn p)
+-- the second and the third; the first is made already
+pub record TriesLater (s : Checker) (d : Direction) (b : Batch) (p : Payment) (m : Made) (t : TriedPayment) : Type 0 where
+  pub answered : t .answer ≡ firstBroken (allGiven (second b ∷ zIn d ∷ []) s (p .second ∷ thirdIn p))
+  pub moved : t .answer ≡ Accepted → t .checker ≡ behindAll s (p .second ∷ thirdIn p)
+  pub kept : t .first ≡ m
+  pub right : t .answer ≡ Accepted → m .answer ≡ Accepted → AllRight p (t .first) (t .second) (t .third)
+  pub made : t .answer ≡ Accepted → lineWith (t .second) ∷ linesThird p (t .third) ≡ linesFor s (p .second ∷ thirdIn p)
 
 -- the same of a payment's records; accepted, what is behind them all
 pub record TriesPayment (s : Checker) (p : Payment) (t : TriedPayment) : Type 0 where
-  pub answered : t .answer ≡ firstBroken (allGiven (dueInPayment s) s (recordsIn p))
-  pub moved : t .answer ≡ Accepted → t .machine ≡ behindAll s (recordsIn p)
+  pub answered : t .answer ≡ firstBroken (allGiven (expectedInPayment s) s (recordsIn p))
+  pub moved : t .answer ≡ Accepted → t .checker ≡ behindAll s (recordsIn p)
+  pub right : t .answer ≡ Accepted → AllRight p (t .first) (t .second) (t .third)
   pub made : t .answer ≡ Accepted → linesWith p (t .first) (t .second) (t .third) ≡ linesFor s (recordsIn p)
 
 -- a call's records, behind its turn
-pub record WroteIn (turn : Answer) (rules : List Rule) (w : Writer) (gs : List Detail) (out after : List ℕ) (r : Written) : Type 0 where
+pub record WroteIn (turn : Answer) (rules : List Rule) (w : Writer) (gs : List Fields) (out after : List ℕ) (r : Written) : Type 0 where
   pub answered : r .answer ≡ andThen turn (firstBroken rules)
   pub moved : r .state ≡ stateAfter (r .answer) w gs
   pub memory : after ≡ outputAfter (r .answer) w gs out
 
--- a header or a trailer, which is the record that is due
-abbrev pub oneRules : Writer → Detail → List ℕ → List Rule
-oneRules w g out = givenOnLine true (w .machine) g ++ rulesOnLine (lineOf (w .machine)) (room (cursorBehind w (g ∷ [])) out ∷ [])
+-- a header or a trailer, which is the record that is expected
+abbrev pub oneRules : Writer → Fields → List ℕ → List Rule
+oneRules w g out = givenOnLine true (w .checker) g ++ rulesOnLine (lineOf (w .checker)) (room (cursorBehind w (g ∷ [])) out ∷ [])
 
 -- a payment's records, and what is asked behind them
 abbrev pub paymentRules : Writer → Payment → List ℕ → List Rule
 paymentRules w p out =
-    allGiven (dueInPayment (w .machine)) (w .machine) (recordsIn p)
-    ++ rulesOnLine (lineOf (w .machine)) (sumRule (w .machine) p ∷ room (cursorBehind w (recordsIn p)) out ∷ [])
+    allGiven (expectedInPayment (w .checker)) (w .checker) (recordsIn p)
+    ++ rulesOnLine (lineOf (w .checker)) (sumRule (w .checker) p ∷ room (cursorBehind w (recordsIn p)) out ∷ [])
 
--- what a call in turn leaves room for
+-- what a payment in turn leaves room for
 pub record MayPay (s : Checker) : Type 0 where
   pub is-held : held s ≡ true
+  pub in-turn : turns (s .phase) .payment ≡ true
   pub few : s .current .payments + 1 ≤ mostPayments

@@ -49,13 +49,13 @@ module _ {w : Writer} {c : Call} {out after : List ℕ} {r : Written} (a : Wrote
 -- ---- the output of an accepted call: the lines of its records, from the cursor on
 
 module _ (w : Writer) (c : Call) (out : List ℕ) (whole : AllWhole (recordsOf c)) (e : answerOf w c out ≡ Accepted) where
-  pub wrote : Puts (w .cursor) (flatten (linesFor (w .machine) (recordsOf c))) out (memoryBehind w (lent c out))
-  wrote = let long = lines-size (w .machine) whole in record { fits = rw long (kept w c out e .room); is = rw (e, long) }
+  pub wrote : Puts (w .cursor) (flatten (linesFor (w .checker) (recordsOf c))) out (memoryBehind w (lent c out))
+  wrote = let long = lines-size (w .checker) whole in record { fits = rw long (kept w c out e .room); is = rw (e, long) }
 
-  pub wrote-length : Laid (w .cursor) (size (length (recordsOf c))) (flatten (linesFor (w .machine) (recordsOf c))) out (memoryBehind w (lent c out))
-  wrote-length = rw (lines-size (w .machine) whole) at (laid wrote)
+  pub wrote-length : Laid (w .cursor) (size (length (recordsOf c))) (flatten (linesFor (w .checker) (recordsOf c))) out (memoryBehind w (lent c out))
+  wrote-length = rw (lines-size (w .checker) whole) at (laid wrote)
 
 -- the same of what such a call leaves
 pub accepted-leaves : {w : Writer} {c : Call} {out after : List ℕ} {r : Written} → Wrote w c out after r → AllWhole (recordsOf c) → r .answer ≡ Accepted
-    → Laid (w .cursor) (size (length (recordsOf c))) (flatten (linesFor (w .machine) (recordsOf c))) out after
+    → Laid (w .cursor) (size (length (recordsOf c))) (flatten (linesFor (w .checker) (recordsOf c))) out after
 accepted-leaves {w} {c} {out} a whole e = rw (a .memory, a .answered) (wrote-length w c out whole (sym (a .answered) ∙ e))

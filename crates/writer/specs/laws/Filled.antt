@@ -8,13 +8,15 @@ use borrow.Author.Tests.{eqb-true, eqb-false}
 use lib.Dec.{eqb, lit≤}
 use lib.ListN.{length, getD, set, length-set}
 use lib.Seq.{getD-set-same, getD-set-other}
+use Rattle.layout.specs.Table.{fieldsOf}
+use Rattle.layout.specs.Names.{before, indexOf}
 use Rattle.layout.specs.declared.Record.{Record}
 use Rattle.layout.specs.declared.Record.the-variants.{FileHeader, BatchHeader, SegmentA, SegmentB, SegmentJ, SegmentJ52, SegmentZ, BatchTrailer, FileTrailer}
 use Rattle.fields.specs.Values.{mostFields}
 use Rattle.fields.specs.declared.Fields.{Fields}
 use Rattle.checker.specs.Line.{ordinal, headerBatch, trailerBatch}
 use Rattle.checker.specs.declared.Checker.{Checker}
-use Rattle.writer.specs.Filling.{bankIndex, batchIndex, numberIndex, firstIndex, secondIndex, filled}
+use Rattle.writer.specs.Filling.{bankIndex, batchIndex, numberIndex, batchRecordsIndex, batchSumIndex, fileBatchesIndex, fileRecordsIndex, filled}
 use Rattle.writer.specs.Calls.{Whole}
 
 -- ---- the numbers that are filled
@@ -27,23 +29,25 @@ abbrev pub fill : ℕ → ℕ → Fill
 fill i n = record { index = i; number = n }
 
 -- in a line of a batch, in a detail, and in each record
-abbrev pub batchFills : Checker → List Fill
-batchFills s = fill batchIndex (ordinal s) ∷ fill bankIndex (s .bank) ∷ []
+abbrev pub batchFills : Record → Checker → List Fill
+batchFills r s = fill (batchIndex r) (ordinal s) ∷ fill (bankIndex r) (s .bank) ∷ []
 
-abbrev pub detailFills : Checker → List Fill
-detailFills s = fill numberIndex (s .current .records .0) ∷ batchFills s
+abbrev pub detailFills : Record → Checker → List Fill
+detailFills r s = fill (numberIndex r) (s .current .records .0) ∷ batchFills r s
 
 abbrev pub fillsIn : Record → Checker → List Fill
-fillsIn FileHeader s = fill batchIndex headerBatch ∷ []
-fillsIn BatchHeader s = batchFills s
-fillsIn SegmentA s = detailFills s
-fillsIn SegmentB s = detailFills s
-fillsIn SegmentJ s = detailFills s
-fillsIn SegmentJ52 s = detailFills s
-fillsIn SegmentZ s = detailFills s
-fillsIn BatchTrailer s = fill secondIndex (s .current .cents .0) ∷ fill firstIndex (s .current .records .0 + 1) ∷ batchFills s
+fillsIn FileHeader s = fill (batchIndex FileHeader) headerBatch ∷ []
+fillsIn BatchHeader s = batchFills BatchHeader s
+fillsIn SegmentA s = detailFills SegmentA s
+fillsIn SegmentB s = detailFills SegmentB s
+fillsIn SegmentJ s = detailFills SegmentJ s
+fillsIn SegmentJ52 s = detailFills SegmentJ52 s
+fillsIn SegmentZ s = detailFills SegmentZ s
+fillsIn BatchTrailer s =
+    fill batchSumIndex (s .current .cents .0) ∷ fill batchRecordsIndex (s .current .records .0 + 1) ∷ batchFills BatchTrailer s
 fillsIn FileTrailer s =
-    fill secondIndex (s .closed .records .0 + 1) ∷ fill firstIndex (s .closed .batches) ∷ fill batchIndex trailerBatch ∷ fill bankIndex (s .bank) ∷ []
+    fill fileRecordsIndex (s .closed .records .0 + 1) ∷ fill fileBatchesIndex (s .closed .batches) ∷ fill (batchIndex FileTrailer) trailerBatch
+    ∷ fill (bankIndex FileTrailer) (s .bank) ∷ []
 
 -- whether one is filled at an index; and the number there, n if none is filled
 abbrev pub fillsAt : List Fill → ℕ → Bool
@@ -58,22 +62,24 @@ numberFrom (f ∷ fs) j n = cond (eqb j (f .index)) (f .number) (numberFrom fs j
 
 -- u is v with these numbers filled
 record Filled (v u : Fields) (fs : List Fill) : Type 0 where
+  which : u .which ≡ v .which
   text : u .text ≡ v .text
   long : length (u .numbers) ≡ length (v .numbers)
   others : (j : ℕ) → fillsAt fs j ≡ false → getD (u .numbers) j 0 ≡ getD (v .numbers) j 0
   each : Whole v → (j : ℕ) → getD (u .numbers) j 0 ≡ numberFrom fs j (getD (v .numbers) j 0)
 
 unfilled : {v : Fields} → Filled v v []
-unfilled = record { text = refl; long = refl; others = λ j e. refl; each = λ h j. refl }
+unfilled = record { which = refl; text = refl; long = refl; others = λ j e. refl; each = λ h j. refl }
 
 neither : (a b : Bool) → (a || b) ≡ false → (a ≡ false) × (b ≡ false)
 neither true b e = (e, cc)
 neither false b e = (refl, e)
 
 put : {v u : Fields} {fs : List Fill} {i n : ℕ} → i < mostFields → Filled v u fs
-    → Filled v (record { numbers = set (u .numbers) i n; text = u .text }) (fill i n ∷ fs)
+    → Filled v (record { which = u .which; numbers = set (u .numbers) i n; text = u .text }) (fill i n ∷ fs)
 put {v} {u} {fs} {i} {n} l b =
     record {
+      which = b .which;
       text = b .text;
       long = simp length-set (b .long);
       others = λ j e. let f = neither (eqb j i) (fillsAt fs j) e in getD-set-other (u .numbers) i j n 0 (eqb-false j i (f .0)) ∙ b .others j (f .1);
@@ -85,7 +91,7 @@ put {v} {u} {fs} {i} {n} l b =
     go h j false e = getD-set-other (u .numbers) i j n 0 (eqb-false j i e) ∙ b .each h j
 
 is-filled : (r : Record) (s : Checker) (v : Fields) → Filled v (filled r s v) (fillsIn r s)
-unfolding filled
+unfolding filled indexOf before fieldsOf
 is-filled FileHeader s v = put (lit≤ tt) unfilled
 is-filled BatchHeader s v = put (lit≤ tt) (put (lit≤ tt) unfilled)
 is-filled SegmentA s v = put (lit≤ tt) (put (lit≤ tt) (put (lit≤ tt) unfilled))
@@ -99,6 +105,9 @@ is-filled FileTrailer s v = put (lit≤ tt) (put (lit≤ tt) (put (lit≤ tt) (p
 -- ---- a record's fields as they are written
 
 module _ (r : Record) (s : Checker) (v : Fields) where
+  pub filled-which : filled r s v .which ≡ v .which
+  filled-which = is-filled r s v .which
+
   pub filled-text : filled r s v .text ≡ v .text
   filled-text = is-filled r s v .text
 

@@ -18,14 +18,15 @@ use Rattle.layout.specs.declared.Direction.{Direction}
 use Rattle.layout.specs.declared.pairs.Batch.{Batch}
 use Rattle.layout.specs.declared.Record.{Record}
 use Rattle.layout.specs.declared.Record.the-variants.{FileHeader, BatchHeader, SegmentA, SegmentB, SegmentJ, SegmentJ52, SegmentZ, BatchTrailer, FileTrailer}
+use Rattle.fields.specs.declared.Fields.{Fields}
 use Rattle.checker.specs.Totals.{add}
 use Rattle.checker.specs.Line.{ordinal}
 use Rattle.checker.specs.Machine.{next, mostDetails}
-use Rattle.checker.specs.laws.Edges.{Follows, heads, closes-paid, closes-noted, ends}
+use Rattle.checker.specs.laws.Edges.{Follows, heads, closes-paid, closes-behind-z, ends}
 use Rattle.checker.specs.laws.Kept.{kept-bounded}
 use Rattle.checker.specs.laws.Reached.{reached-kept}
 use Rattle.checker.specs.declared.order.Phase.{Phase}
-use Rattle.checker.specs.declared.order.Phase.the-variants.{Start, Headed, Opened, Begun, Paid, Noted, Closed, Ended}
+use Rattle.checker.specs.declared.order.Phase.the-variants.{Start, Headed, Opened, Begun, Paid, BehindZ, Closed, Ended}
 use Rattle.checker.specs.declared.totals.Totals.{Totals}
 use Rattle.checker.specs.declared.Checker.{Checker}
 use Rattle.writer.specs.Given.{Call, openFile, openBatch, pay, closeBatch, closeFile, recordsIn, recordsOf}
@@ -37,9 +38,8 @@ use Rattle.writer.specs.laws.Sound.{as-held}
 use Rattle.writer.specs.laws.Turn.{in-turn}
 use Rattle.writer.specs.laws.Accepted.{kept}
 use Rattle.writer.specs.laws.Counted.{call-counted}
-use Rattle.writer.specs.laws.Sequences.{machine-reached, never-guarded}
+use Rattle.writer.specs.laws.Sequences.{checker-reached, never-guarded}
 use Rattle.writer.specs.laws.Ended.{phaseBy, phase-after}
-use Rattle.writer.specs.declared.given.Detail.{Detail}
 use Rattle.writer.specs.declared.Writer.{Writer}
 
 -- ---- room for the records that close the file
@@ -51,7 +51,7 @@ reserve Headed = 1
 reserve Opened = leastDetails + trailers
 reserve Begun = 1 + trailers
 reserve Paid = trailers
-reserve Noted = trailers
+reserve BehindZ = trailers
 reserve Closed = 1
 reserve Ended = 0
 
@@ -64,12 +64,12 @@ header-reserve heads = refl
 
 trailer-reserve : {d : Direction} {b : Batch} {p : Phase} → Follows d b p BatchTrailer → reserve p ≡ trailers
 trailer-reserve closes-paid = refl
-trailer-reserve closes-noted = refl
+trailer-reserve closes-behind-z = refl
 
 end-reserve : {d : Direction} {b : Batch} {p : Phase} → Follows d b p FileTrailer → reserve p ≡ 1
 end-reserve ends = refl
 
-paid-reserve : (b : Bool) → reserve (cond b Noted Paid) ≡ trailers
+paid-reserve : (b : Bool) → reserve (cond b BehindZ Paid) ≡ trailers
 paid-reserve true = refl
 paid-reserve false = refl
 
@@ -77,27 +77,27 @@ turn-room : (c : Call) (s : Checker) → AllKept (turnLimits c s) → Roomy s �
 unfolding AllKept
 turn-room (openFile v) s k h = omega (arith, header-reserve (in-turn (s .phase) (s .dir) (s .batch) .header (k .0)))
 turn-room (openBatch v) s k h = omega (arith, leb-true (recordsSoFar s + (1 + leastDetails + trailers)) mostRecords (k .1 .1 .0))
-turn-room (pay p) s k h = omega (arith, leb-true (recordsSoFar s + (length (recordsIn p) + trailers)) mostRecords (k .1 .1 .0), paid-reserve (p .noted))
+turn-room (pay p) s k h = omega (arith, leb-true (recordsSoFar s + (length (recordsIn p) + trailers)) mostRecords (k .1 .1 .0), paid-reserve (p .triple))
 turn-room (closeBatch v) s k h = omega (arith, trailer-reserve (in-turn (s .phase) (s .dir) (s .batch) .trailer (k .0)))
 turn-room (closeFile v) s k h = omega (arith, end-reserve (in-turn (s .phase) (s .dir) (s .batch) .end (k .0)))
 
-call-roomy : (w : Writer) (c : Call) (out : List ℕ) → AllWhole (recordsOf c) → Roomy (w .machine) → Roomy (stateBehind w (lent c out) .machine)
+call-roomy : (w : Writer) (c : Call) (out : List ℕ) → AllWhole (recordsOf c) → Roomy (w .checker) → Roomy (stateBehind w (lent c out) .checker)
 unfolding add
 call-roomy w c out whole h = go (answerOf w c out) refl
   where
-    go : (a : Answer) → answerOf w c out ≡ a → Roomy (stateAfter a w (recordsOf c) .machine)
+    go : (a : Answer) → answerOf w c out ≡ a → Roomy (stateAfter a w (recordsOf c) .checker)
     go Accepted e =
         let records = ap (λ (t : Totals). t .records .0) (call-counted w c out whole e) in
-        let phase : behindAll (w .machine) (recordsOf c) .phase ≡ phaseBy c = rw e at (phase-after w c out e) in
-        rw phase (omega (arith, turn-room c (w .machine) (kept w c out e .first) h))
+        let phase : behindAll (w .checker) (recordsOf c) .phase ≡ phaseBy c = rw e at (phase-after w c out e) in
+        rw phase (omega (arith, turn-room c (w .checker) (kept w c out e .first) h))
     go (Refused r) e = h
 
-calls-roomy : (w : Writer) {ls : List Lent} → WholeCalls ls → Roomy (w .machine) → Roomy (left w ls .machine)
+calls-roomy : (w : Writer) {ls : List Lent} → WholeCalls ls → Roomy (w .checker) → Roomy (left w ls .checker)
 unfolding left
 calls-roomy w no-call h = h
 calls-roomy w (and-call {l} whole hs) h = calls-roomy (stateBehind w l) hs (call-roomy w (l .call) (l .out) whole h)
 
-pub room-left : (ls : List Lent) → WholeCalls ls → recordsSoFar (left newWriter ls .machine) + reserve (left newWriter ls .machine .phase) ≤ mostRecords
+pub room-left : (ls : List Lent) → WholeCalls ls → recordsSoFar (left newWriter ls .checker) + reserve (left newWriter ls .checker .phase) ≤ mostRecords
 room-left ls h = calls-roomy newWriter h (lit≤ tt)
 
 -- ---- the bank has three digits
@@ -113,16 +113,16 @@ next-bank s SegmentZ rec h = h
 next-bank s BatchTrailer rec h = h
 next-bank s FileTrailer rec h = h
 
-all-bank : (s : Checker) (gs : List Detail) → s .bank < 10 ^ 3 → behindAll s gs .bank < 10 ^ 3
+all-bank : (s : Checker) (gs : List Fields) → s .bank < 10 ^ 3 → behindAll s gs .bank < 10 ^ 3
 unfolding behindAll
 all-bank s [] h = h
 all-bank s (g ∷ gs) h = all-bank (nextBy s g) gs (next-bank s (g .which) (bytesOf s g) h)
 
-call-bank : (a : Answer) (w : Writer) (gs : List Detail) → w .machine .bank < 10 ^ 3 → stateAfter a w gs .machine .bank < 10 ^ 3
-call-bank Accepted w gs h = all-bank (w .machine) gs h
+call-bank : (a : Answer) (w : Writer) (gs : List Fields) → w .checker .bank < 10 ^ 3 → stateAfter a w gs .checker .bank < 10 ^ 3
+call-bank Accepted w gs h = all-bank (w .checker) gs h
 call-bank (Refused r) w gs h = h
 
-calls-bank : (w : Writer) (ls : List Lent) → w .machine .bank < 10 ^ 3 → left w ls .machine .bank < 10 ^ 3
+calls-bank : (w : Writer) (ls : List Lent) → w .checker .bank < 10 ^ 3 → left w ls .checker .bank < 10 ^ 3
 unfolding left
 calls-bank w [] h = h
 calls-bank w (l ∷ ls) h = calls-bank (stateBehind w l) ls (call-bank (answerOf w (l .call) (l .out)) w (recordsOf (l .call)) h)
@@ -138,10 +138,10 @@ pub record OwnFits (s : Checker) : Type 0 where
   pub file-batches : s .closed .batches < 10 ^ 6
   pub file-records : turns (s .phase) .end ≡ true → s .closed .records .0 + 1 < 10 ^ 6
 
-pub own-fits : (ls : List Lent) → WholeCalls ls → OwnFits (left newWriter ls .machine)
+pub own-fits : (ls : List Lent) → WholeCalls ls → OwnFits (left newWriter ls .checker)
 own-fits ls h =
-    let s = left newWriter ls .machine in
-    let b = kept-bounded (reached-kept (machine-reached ls h)) in
+    let s = left newWriter ls .checker in
+    let b = kept-bounded (reached-kept (checker-reached ls h)) in
     let c = as-held s (never-guarded ls h) .cents in
     let r = room-left ls h in
     record {

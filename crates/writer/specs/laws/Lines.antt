@@ -5,28 +5,28 @@ use native.Mathlib.Omega.{arith}
 use lib.ListN.{length, length-append}
 use Rattle.layout.specs.Table.{recordBytes}
 use Rattle.fields.specs.laws.Parts.{record-length}
+use Rattle.fields.specs.declared.Fields.{Fields}
 use Rattle.checker.specs.Line.{lineBytes, lineFrom}
 use Rattle.checker.specs.declared.Checker.{Checker}
 use Rattle.writer.specs.Filling.{filled, bytesOf}
 use Rattle.writer.specs.Refusals.{nextBy, size}
 use Rattle.writer.specs.Outcome.{linesFor}
 use Rattle.writer.specs.Calls.{Whole, AllWhole, no-more, and-then}
-use Rattle.writer.specs.declared.given.Detail.{Detail}
 use Rattle.writer.specs.laws.Filled.{filled-text}
 
-module _ (s : Checker) (g : Detail) (whole : Whole (g .fields)) where
+module _ (s : Checker) (g : Fields) (whole : Whole g) where
   -- fields with what the writer fills have a whole text; so a record has 240 bytes, and its line 242
-  pub full-text : length (filled (g .which) s (g .fields) .text) ≡ recordBytes
-  full-text = ap length (filled-text (g .which) s (g .fields)) ∙ whole .text
+  pub full-text : length (filled (g .which) s g .text) ≡ recordBytes
+  full-text = ap length (filled-text (g .which) s g) ∙ whole .text
 
   pub bytes-length : length (bytesOf s g) ≡ recordBytes
-  bytes-length = record-length (g .which) (filled (g .which) s (g .fields)) full-text
+  bytes-length = record-length (g .which) (filled (g .which) s g) full-text
 
   pub line-length : length (lineFrom (bytesOf s g)) ≡ lineBytes
   line-length = rw (length-append, bytes-length)
 
 -- so many lines
-pub lines-size : (s : Checker) {gs : List Detail} → AllWhole gs → length (flatten (linesFor s gs)) ≡ size (length gs)
+pub lines-size : (s : Checker) {gs : List Fields} → AllWhole gs → length (flatten (linesFor s gs)) ≡ size (length gs)
 unfolding linesFor flatten
 lines-size s no-more = refl
 lines-size s (and-then {g} whole rest) =

@@ -25,7 +25,7 @@ flatten-append (x ∷ xs) ys = rw (flatten-append xs ys, append-assoc)
 
 -- the lines that it writes
 abbrev linesBy : Answer → Writer → Call → List (List ℕ)
-linesBy a w c = linesIf a (linesFor (w .machine) (recordsOf c))
+linesBy a w c = linesIf a (linesFor (w .checker) (recordsOf c))
 
 -- the cursor moves behind them, and they are put from it on
 record Lays (w : Writer) (c : Call) (out : List ℕ) (a : Answer) : Type 0 where
@@ -37,7 +37,7 @@ unfolding flatten
 lays w c out h = go (answerOf w c out) refl
   where
     go : (a : Answer) → answerOf w c out ≡ a → Lays w c out a
-    go Accepted e = record { cursor = rw (lines-size (w .machine) h); puts = λ l. rw e at (wrote w c out h e) }
+    go Accepted e = record { cursor = rw (lines-size (w .checker) h); puts = λ l. rw e at (wrote w c out h e) }
     go (Refused r) e = record { cursor = omega arith; puts = puts-nothing }
 
 -- ---- calls one after the other

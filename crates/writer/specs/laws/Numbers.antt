@@ -21,17 +21,19 @@ use Rattle.layout.specs.declared.Record.{Record}
 use Rattle.layout.specs.declared.Record.the-variants.{SegmentJ}
 use Rattle.fields.specs.Values.{heldAs, rendered}
 use Rattle.fields.specs.laws.Parts.{holds}
+use Rattle.fields.specs.declared.Fields.{Fields}
 use Rattle.checker.specs.Line.{houseRules, boletoRules}
 use Rattle.checker.specs.Machine.{lineOf}
 use Rattle.checker.specs.declared.Checker.{Checker}
 use Rattle.writer.specs.Given.{Call, openFile, openBatch, pay, closeBatch, closeFile, recordsOf}
 use Rattle.writer.specs.Filling.{filled, bytesOf}
-use Rattle.writer.specs.Refusals.{turnLimits, dueIn, dueNow, givenRules, nextBy, allGiven, sumRules, callRules}
+use Rattle.writer.specs.Refusals.{turnLimits, placedIn, givenRules, nextBy, placedRules, sumRules, callRules}
+use Rattle.writer.specs.inner.Placed.{expectedIn, expectedNow, allGiven}
 use Rattle.writer.specs.Outcome.{answerOf}
 use Rattle.writer.specs.Calls.{Whole, AllWhole, no-more, and-then}
-use Rattle.writer.specs.declared.given.Detail.{Detail}
 use Rattle.writer.specs.declared.Writer.{Writer}
 use Rattle.writer.specs.laws.Lines.{full-text}
+use Rattle.writer.specs.laws.Placed.{placed-rules}
 use Rattle.writer.specs.laws.Answers.{call-refused}
 
 -- 4, 8, 11 to 20, 23, 25, 50 and 51
@@ -66,7 +68,7 @@ kind Zeros p n text e = one refl
 kind (Exact bs) p n text e = one refl
 kind (OneOf domain) p n text e = one refl
 kind Service p n text e = one refl
-kind Form p n text e = one refl
+kind Form p n text e = none
 kind Barcode p n text e = more refl (one refl)
 kind (RecordType b) p n text e = past (ap (same (b ∷ [])) e ∙ same-self (b ∷ [])) none
 kind (Segment b) p n text e = one refl
@@ -88,19 +90,19 @@ house r rec = go (isOneOf r (SegmentJ ∷ []))
     go true = more refl (more refl (more refl (one refl)))
     go false = none
 
-given : (due : Bool) (s : Checker) (g : Detail) → Whole (g .fields) → Writes (givenRules due (g .which) (s .dir) (bytesOf s g))
+given : (expected : Bool) (s : Checker) (g : Fields) → Whole g → Writes (givenRules expected (g .which) (s .dir) (bytesOf s g))
 unfolding givenRules
-given due s g whole =
-    let v = filled (g .which) s (g .fields) in
+given expected s g whole =
+    let v = filled (g .which) s g in
     let held = holds (g .which) v (full-text s g whole) in
     more refl
     (more refl (join (fields (fieldsOf (g .which)) (s .dir) (bytesOf s g) (λ j. getD (v .numbers) j 0) (v .text) held) (house (g .which) (bytesOf s g))))
 
-records : (due : List (List Record)) (s : Checker) {gs : List Detail} → AllWhole gs → Writes (allGiven due s gs)
+records : (expected : List (List Record)) (s : Checker) {gs : List Fields} → AllWhole gs → Writes (allGiven expected s gs)
 unfolding allGiven
-records due s no-more = none
-records due s (and-then {g} whole rest) =
-    join (on-line (lineOf s) (given (isOneOf (g .which) (dueNow due)) s g whole)) (records (drop 1 due) (nextBy s g) rest)
+records expected s no-more = none
+records expected s (and-then {g} whole rest) =
+    join (on-line (lineOf s) (given (isOneOf (g .which) (expectedNow expected)) s g whole)) (records (drop 1 expected) (nextBy s g) rest)
 
 turn : (c : Call) (s : Checker) → Writes (turnLimits c s)
 turn (openFile v) s = one refl
@@ -121,7 +123,8 @@ pub never-others : (w : Writer) (c : Call) (out : List ℕ) → AllWhole (record
     → writes (r .number) ≡ true
 unfolding callRules
 never-others w c out whole r e =
-    let s = w .machine in
+    let s = w .checker in
+    let each : Writes (placedRules s (placedIn c s)) = rw (placed-rules c s) (records (expectedIn c s) s whole) in
     broken-so
-    (join (more refl (on-line (lineOf s) (turn c s))) (join (records (dueIn c s) s whole) (on-line (lineOf s) (join (sums c s) (one refl)))))
+    (join (more refl (on-line (lineOf s) (turn c s))) (join each (on-line (lineOf s) (join (sums c s) (one refl)))))
     (call-refused w c out r .0 e)

@@ -1,4 +1,4 @@
--- In a right record each field that is held as a number gives it: the caller's, or what the writer fills. Assumes nothing.
+-- In a well made record each field that is held as a number gives it: the caller's, or what the writer fills. Assumes nothing.
 use mathlib.Core.Path.{_≡_, ap, _∙_}
 use mathlib.Core.List.{List, [], _∷_, _++_}
 use Prim.Native.Nat.{ℕ, _<_}
@@ -8,17 +8,18 @@ use lib.ListN.{length, getD, length-append, List·getD-append}
 use Rattle.digits.specs.Digits.{digitByte}
 use Rattle.digits.specs.Numbers.{numberOf}
 use Rattle.digits.specs.declared.spelling.Number.the-variants.{Is}
-use Rattle.layout.specs.Table.{Field, part, line, typeOf, typePlace, numberField, segmentFields, segmentPlace, fieldsOf, none}
+use Rattle.layout.specs.Table.{Field, part, line, typeOf, typePlace, bankField, batchField, numberField, segmentFields, segmentPlace, fieldsOf, none}
 use Rattle.layout.specs.Kinds.{asNumber}
+use Rattle.layout.specs.laws.Indexes.{bank-index, batch-index, number-index}
 use Rattle.layout.specs.declared.Record.{Record}
 use Rattle.fields.specs.Values.{heldAs}
 use Rattle.fields.specs.laws.RoundTrip.{field-reads}
+use Rattle.fields.specs.declared.Fields.{Fields}
 use Rattle.checker.specs.Line.{behind}
 use Rattle.checker.specs.declared.Checker.{Checker}
 use Rattle.checker.specs.laws.Details.{line-first, detail-of}
-use Rattle.writer.specs.Filling.{numberIndex, filled, bytesOf}
-use Rattle.writer.specs.declared.given.Detail.{Detail}
-use Rattle.writer.specs.laws.Accepted.{Right}
+use Rattle.writer.specs.Filling.{bankIndex, batchIndex, numberIndex, filled, bytesOf}
+use Rattle.writer.specs.laws.Accepted.{WellMade}
 use Rattle.writer.specs.laws.Filled.{fillsIn, numberFrom, filled-numbers}
 use Rattle.writer.specs.laws.Lines.{full-text}
 
@@ -36,23 +37,30 @@ pub in-front : (r : Record) (fs rest : List Field) → fieldsOf r ≡ fs ++ rest
 in-front r fs rest e j h =
     record { below = rw (e, length-append) (omega arith); is = ap (λ (xs : List Field). getD xs j none) e ∙ List·getD-append fs rest none j h }
 
-pub in-line : (r : Record) (j : ℕ) → j < 3 → Stands r j (getD (line r) j none)
+in-line : (r : Record) (j : ℕ) → j < 3 → Stands r j (getD (line r) j none)
 in-line r = in-front r (line r) (behind typePlace r) (line-first r)
 
+-- a line begins with its bank and its batch
+pub at-bank : (r : Record) → Stands r (bankIndex r) bankField
+at-bank r = rw (bank-index r) (in-line r 0 (lit≤ tt))
+
+pub at-batch : (r : Record) → Stands r (batchIndex r) batchField
+at-batch r = rw (batch-index r) (in-line r 1 (lit≤ tt))
+
 -- a detail goes on with its number
-pub at-number : (r : Record) → typeOf r ≡ digitByte 3 → Stands r numberIndex numberField
+pub at-number : (r : Record) → typeOf r ≡ digitByte 3 → Stands r (numberIndex r) numberField
 at-number r e =
     let o = detail-of r e in
-    in-front r (line r ++ numberField ∷ []) (segmentFields r ++ behind segmentPlace r) (line-first r ∙ rw (o .begun)) numberIndex (lit≤ tt)
+    rw (number-index r) (in-front r (line r ++ numberField ∷ []) (segmentFields r ++ behind segmentPlace r) (line-first r ∙ rw (o .begun)) 3 (lit≤ tt))
 
 -- ---- a field that is held as a number
 
-module _ {due : List Record} {s : Checker} {g : Detail} (t : Right due s g) {j : ℕ} {f : Field} (at : Stands (g .which) j f) (a : heldAs f ≡ asNumber) where
-  pub number-at : numberOf (part f (bytesOf s g)) ≡ Is (getD (filled (g .which) s (g .fields) .numbers) j 0)
+module _ {s : Checker} {g : Fields} (t : WellMade s g) {j : ℕ} {f : Field} (at : Stands (g .which) j f) (a : heldAs f ≡ asNumber) where
+  pub number-at : numberOf (part f (bytesOf s g)) ≡ Is (getD (filled (g .which) s g .numbers) j 0)
   number-at =
-      let there = field-reads (g .which) (s .dir) (filled (g .which) s (g .fields)) (full-text s g (t .whole)) (t .fields) j (at .below) in
+      let there = field-reads (g .which) (s .dir) (filled (g .which) s g) (full-text s g (t .whole)) (t .fields) j (at .below) in
       (rw (at .is) at there) a
 
   -- what the writer fills there
-  pub reads-at : (k : ℕ) → numberFrom (fillsIn (g .which) s) j (getD (g .fields .numbers) j 0) ≡ k → numberOf (part f (bytesOf s g)) ≡ Is k
-  reads-at k e = number-at ∙ ap Is (filled-numbers (g .which) s (g .fields) (t .whole) j ∙ e)
+  pub reads-at : (k : ℕ) → numberFrom (fillsIn (g .which) s) j (getD (g .numbers) j 0) ≡ k → numberOf (part f (bytesOf s g)) ≡ Is k
+  reads-at k e = number-at ∙ ap Is (filled-numbers (g .which) s g (t .whole) j ∙ e)

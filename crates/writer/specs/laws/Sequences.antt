@@ -34,37 +34,37 @@ use Rattle.writer.specs.laws.Counted.{call-counted, call-cents}
 
 -- the machine takes what is written, and counts what is put in, and the sum of the file stays below its limit
 record Does (w : Writer) (c : Call) (a : Answer) : Type 0 where
-  through : Through (w .machine) (linesIf a (linesFor (w .machine) (recordsOf c))) (stateAfter a w (recordsOf c) .machine)
-  counts : counted (stateAfter a w (recordsOf c) .machine) ≡ add (counted (w .machine)) (totalsIf a (putBy c))
-  cents : centsSoFar (w .machine) < fileCents → centsSoFar (stateAfter a w (recordsOf c) .machine) < fileCents
+  through : Through (w .checker) (linesIf a (linesFor (w .checker) (recordsOf c))) (stateAfter a w (recordsOf c) .checker)
+  counts : counted (stateAfter a w (recordsOf c) .checker) ≡ add (counted (w .checker)) (totalsIf a (putBy c))
+  cents : centsSoFar (w .checker) < fileCents → centsSoFar (stateAfter a w (recordsOf c) .checker) < fileCents
 
 does : (w : Writer) (c : Call) (out : List ℕ) → AllWhole (recordsOf c) → Does w c (answerOf w c out)
 does w c out h = go (answerOf w c out) refl
   where
     go : (a : Answer) → answerOf w c out ≡ a → Does w c a
     go Accepted e = record { through = call-through w c out h e; counts = call-counted w c out h e; cents = call-cents w c out h e }
-    go (Refused r) e = record { through = here; counts = sym (add-none (counted (w .machine))); cents = λ l. l }
+    go (Refused r) e = record { through = here; counts = sym (add-none (counted (w .checker))); cents = λ l. l }
 
 -- ---- calls one after the other
 
-calls-through : (w : Writer) {ls : List Lent} → WholeCalls ls → Through (w .machine) (written w ls) (left w ls .machine)
+calls-through : (w : Writer) {ls : List Lent} → WholeCalls ls → Through (w .checker) (written w ls) (left w ls .checker)
 unfolding written left
 calls-through w no-call = here
 calls-through w (and-call {l} h hs) = through-append (does w (l .call) (l .out) h .through) (calls-through (stateBehind w l) hs)
 
-calls-count : (w : Writer) {ls : List Lent} → WholeCalls ls → counted (left w ls .machine) ≡ add (counted (w .machine)) (putIn w ls)
+calls-count : (w : Writer) {ls : List Lent} → WholeCalls ls → counted (left w ls .checker) ≡ add (counted (w .checker)) (putIn w ls)
 unfolding left putIn
-calls-count w no-call = sym (add-none (counted (w .machine)))
-calls-count w (and-call {l} h hs) = calls-count (stateBehind w l) hs ∙ rw (does w (l .call) (l .out) h .counts) (add-assoc (counted (w .machine)) _ _)
+calls-count w no-call = sym (add-none (counted (w .checker)))
+calls-count w (and-call {l} h hs) = calls-count (stateBehind w l) hs ∙ rw (does w (l .call) (l .out) h .counts) (add-assoc (counted (w .checker)) _ _)
 
-calls-cents : (w : Writer) {ls : List Lent} → WholeCalls ls → centsSoFar (w .machine) < fileCents → centsSoFar (left w ls .machine) < fileCents
+calls-cents : (w : Writer) {ls : List Lent} → WholeCalls ls → centsSoFar (w .checker) < fileCents → centsSoFar (left w ls .checker) < fileCents
 unfolding left
 calls-cents w no-call l = l
 calls-cents w (and-call {l = c} h hs) l = calls-cents (stateBehind w c) hs (does w (c .call) (c .out) h .cents l)
 
 -- ---- a state that a reader's lines lead to
 
-held-kept : {s : Checker} → checker.Kept s → centsSoFar s < fileCents → held s ≡ true
+pub held-kept : {s : Checker} → checker.Kept s → centsSoFar s < fileCents → held s ≡ true
 unfolding held
 held-kept {s} k few =
     let b = checker.kept-bounded k in
@@ -78,24 +78,24 @@ ended-none {s} k e = let closed : checker.stage (s .phase) .opened ≡ 0 = rw e 
 -- ---- a file
 
 module _ (ls : List Lent) (h : WholeCalls ls) where
-  pub file-through : Through start (written newWriter ls) (left newWriter ls .machine)
+  pub file-through : Through start (written newWriter ls) (left newWriter ls .checker)
   file-through = calls-through newWriter h
 
-  pub machine-reached : Reached (left newWriter ls .machine)
-  machine-reached = through-reached at-start file-through
+  pub checker-reached : Reached (left newWriter ls .checker)
+  checker-reached = through-reached at-start file-through
 
   -- no calls leave a state that is guarded against
-  pub never-guarded : held (left newWriter ls .machine) ≡ true
-  never-guarded = held-kept (reached-kept machine-reached) (calls-cents newWriter h (lit< tt))
+  pub never-guarded : held (left newWriter ls .checker) ≡ true
+  never-guarded = held-kept (reached-kept checker-reached) (calls-cents newWriter h (lit< tt))
 
   -- what is counted is what was put in
-  pub put-in : counted (left newWriter ls .machine) ≡ putIn newWriter ls
+  pub put-in : counted (left newWriter ls .checker) ≡ putIn newWriter ls
   put-in = calls-count newWriter h ∙ simp none-add
 
   -- a file that is closed is accepted, with the totals of what was put in
-  pub file-accepted : left newWriter ls .machine .phase ≡ Ended → checkFile (fileOf ls) ≡ outcome.Accepted (putIn newWriter ls)
+  pub file-accepted : left newWriter ls .checker .phase ≡ Ended → checkFile (fileOf ls) ≡ outcome.Accepted (putIn newWriter ls)
   file-accepted e =
-      let m = left newWriter ls .machine in
+      let m = left newWriter ls .checker in
       let lines = lines-are (fileOf ls) (written newWriter ls) .1 (through-lines file-through, refl) in
-      let all : putIn newWriter ls ≡ m .closed = sym put-in ∙ rw (ended-none (reached-kept machine-reached) e) (add-none (m .closed)) in
+      let all : putIn newWriter ls ≡ m .closed = sym put-in ∙ rw (ended-none (reached-kept checker-reached) e) (add-none (m .closed)) in
       accepted-file (fileOf ls) (putIn newWriter ls) .1 (record { to = m; through = rw lines file-through; at-end = rw e; counted = all })

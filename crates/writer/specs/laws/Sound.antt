@@ -12,6 +12,7 @@ use Rattle.layout.specs.laws.Bytes.{and-left, and-right}
 use Rattle.layout.specs.declared.Record.{Record}
 use Rattle.layout.specs.declared.Record.the-variants.{SegmentA, SegmentJ}
 use Rattle.layout.specs.declared.pairs.Batch.{Batch}
+use Rattle.fields.specs.declared.Fields.{Fields}
 use Rattle.checker.specs.Order.{first, second}
 use Rattle.checker.specs.Totals.{add}
 use Rattle.checker.specs.Line.{mostPayments}
@@ -22,8 +23,7 @@ use Rattle.checker.specs.laws.Edges.{Begins, by-A, by-J, GoesOn, by-B, by-J52}
 use Rattle.checker.specs.declared.Checker.{Checker}
 use Rattle.writer.specs.Filling.{bytesOf}
 use Rattle.writer.specs.Refusals.{nextBy, centsSoFar, held}
-use Rattle.writer.specs.declared.given.Detail.{Detail}
-use Rattle.writer.specs.laws.Due.{first-due, second-due}
+use Rattle.writer.specs.laws.Expected.{first-expected, second-expected}
 
 -- `held`, as facts
 pub record Held (s : Checker) : Type 0 where
@@ -58,16 +58,16 @@ unfolding add
 gone-on rec by-B k = omega arith
 gone-on rec by-J52 k = omega arith
 
-behind-first : (s : Checker) (g : Detail) → held s ≡ true → s .current .payments + 1 ≤ mostPayments → isOneOf (g .which) (first (s .batch)) ≡ true
+behind-first : (s : Checker) (g : Fields) → held s ≡ true → s .current .payments + 1 ≤ mostPayments → isOneOf (g .which) (first (s .batch)) ≡ true
     → Spare 2 (nextBy s g)
-behind-first s g k few f = begun (bytesOf s g) (first-due (s .batch) (g .which) f) (as-held s k) few
+behind-first s g k few f = begun (bytesOf s g) (first-expected (s .batch) (g .which) f) (as-held s k) few
 
 -- behind the first record, and behind the second
-pub sound-second : (s : Checker) (g : Detail) → held s ≡ true → s .current .payments + 1 ≤ mostPayments → isOneOf (g .which) (first (s .batch)) ≡ true
+pub sound-second : (s : Checker) (g : Fields) → held s ≡ true → s .current .payments + 1 ≤ mostPayments → isOneOf (g .which) (first (s .batch)) ≡ true
     → sound (nextBy s g) ≡ true
 sound-second s g k few f = bounded-sound (behind-first s g k few f .bounds)
 
-pub sound-third : (s : Checker) (g h : Detail) → held s ≡ true → s .current .payments + 1 ≤ mostPayments → isOneOf (g .which) (first (s .batch)) ≡ true
+pub sound-third : (s : Checker) (g h : Fields) → held s ≡ true → s .current .payments + 1 ≤ mostPayments → isOneOf (g .which) (first (s .batch)) ≡ true
     → isOneOf (h .which) (second (s .batch)) ≡ true → sound (nextBy (nextBy s g) h) ≡ true
 sound-third s g h k few f q =
-    bounded-sound (gone-on (bytesOf (nextBy s g) h) (second-due (s .batch) (h .which) q) (behind-first s g k few f) .bounds)
+    bounded-sound (gone-on (bytesOf (nextBy s g) h) (second-expected (s .batch) (h .which) q) (behind-first s g k few f) .bounds)

@@ -6,32 +6,32 @@ use Prim.Native.Nat.{ℕ, _+_}
 use native.Mathlib.Omega.{arith}
 use lib.ListN.{length, getD}
 use lib.Seq.{take-at, getD-at, getD-append-add}
-use Rattle.answer.specs.Rules.{AllKept}
+use Rattle.answer.specs.Rules.{firstBroken, AllKept, onLine}
 use Rattle.answer.specs.laws.Order.{accepted-kept}
 use Rattle.digits.specs.Digits.{place}
 use Rattle.layout.specs.Table.{recordBytes}
 use Rattle.layout.specs.declared.Record.{Record}
-use Rattle.checker.specs.Line.{recordIn, rulesOfLine, lineFrom}
-use Rattle.checker.specs.Machine.{next, sound, stepOf}
+use Rattle.fields.specs.declared.Fields.{Fields}
+use Rattle.checker.specs.Line.{recordIn, houseRules, rulesAs, rulesOfLine, lineFrom}
+use Rattle.checker.specs.Machine.{lineOf, next, sound, stepOf}
 use Rattle.checker.specs.Calls.{Through, further}
 use Rattle.checker.specs.laws.Edges.{Follows}
-use Rattle.checker.specs.laws.Meaning.{LineAs, line-kept, line-moves}
+use Rattle.checker.specs.laws.Meaning.{answered, LineRead, line-answers, LineAs, line-kept, line-moves}
 use Rattle.checker.specs.laws.Details.{Limit}
 use Rattle.checker.specs.laws.Asks.{read-right}
 use Rattle.checker.specs.declared.Checker.{Checker}
 use Rattle.writer.specs.Filling.{bytesOf}
 use Rattle.writer.specs.Refusals.{nextBy}
-use Rattle.writer.specs.declared.given.Detail.{Detail}
-use Rattle.writer.specs.laws.Accepted.{Right}
+use Rattle.writer.specs.laws.Accepted.{WellMade, Right}
 use Rattle.writer.specs.laws.Lines.{bytes-length, line-length}
-use Rattle.writer.specs.laws.Ruled.{ruled}
+use Rattle.writer.specs.laws.Ruled.{ruled, house-answers}
 
 -- the line's rules are kept, and the state behind it is the record's
-pub record Takes (s : Checker) (g : Detail) : Type 0 where
+pub record Takes (s : Checker) (g : Fields) : Type 0 where
   pub kept : AllKept (rulesOfLine s (lineFrom (bytesOf s g)))
   pub moves : stepOf s (lineFrom (bytesOf s g)) .state ≡ nextBy s g
 
-pub takes-on : {s t : Checker} {g : Detail} {ls : List (List ℕ)} → Takes s g → Through (nextBy s g) ls t → Through s (lineFrom (bytesOf s g) ∷ ls) t
+pub takes-on : {s t : Checker} {g : Fields} {ls : List (List ℕ)} → Takes s g → Through (nextBy s g) ls t → Through s (lineFrom (bytesOf s g) ∷ ls) t
 takes-on {s} {t} {g} {ls} x on = let later : Through (stepOf s (lineFrom (bytesOf s g)) .state) ls t = rw (x .moves) on in further (x .kept) later
 
 -- a record of 240 bytes, and its CR and LF
@@ -45,19 +45,43 @@ module _ (rec : List ℕ) (long : length rec ≡ recordBytes) where
   pub line-feed : place 242 (lineFrom rec) ≡ 10
   line-feed = let e : 241 ≡ length rec + 1 = omega arith in ap (λ (i : ℕ). getD (lineFrom rec) i 0) e ∙ getD-append-add rec _ 1 0
 
-module _ {due : List Record} {s : Checker} {g : Detail} (t : Right due s g) (ok : sound s ≡ true) where
-  -- what may follow, within the limit
+-- the line of a well made record that may follow is read as that record
+module _ {s : Checker} {g : Fields} (w : WellMade s g) (f : Follows (s .dir) (s .batch) (s .phase) (g .which)) where
+  same : recordIn (lineFrom (bytesOf s g)) ≡ bytesOf s g
+  same = record-in (bytesOf s g) (bytes-length s g (w .whole))
+
+  line-read : LineRead (g .which) s (lineFrom (bytesOf s g))
+  line-read =
+      let long = bytes-length s g (w .whole) in
+      record {
+        long = line-length s g (w .whole);
+        printable = rw same (w .printable);
+        cr = carriage-return (bytesOf s g) long;
+        lf = line-feed (bytesOf s g) long;
+        read = rw same (read-right s (bytesOf s g) f (accepted-kept _ (w .fields)));
+      }
+
+  -- the machine answers as the house does
+  pub steps-by-house : sound s ≡ true → Limit (g .which) s
+      → stepOf s (lineFrom (bytesOf s g)) .answer ≡ onLine (lineOf s) (firstBroken (houseRules (g .which) (bytesOf s g)))
+  steps-by-house ok few =
+      let line = lineFrom (bytesOf s g) in
+      answered s line ok
+      ∙ ap (onLine (lineOf s)) (line-answers s line line-read ∙ ap (λ (rec : List ℕ). firstBroken (rulesAs (g .which) s rec)) same ∙ house-answers w few)
+
+-- and it takes the line of a right one
+module _ {expected : List Record} {s : Checker} {g : Fields} (t : Right expected s g) (ok : sound s ≡ true) where
   pub takes : Follows (s .dir) (s .batch) (s .phase) (g .which) → Limit (g .which) s → Takes s g
   takes f few =
-      let rec = bytesOf s g in
-      let long = bytes-length s g (t .whole) in
-      let same = record-in rec long in
-      let line : LineAs (g .which) s (lineFrom rec) = record {
-        long = line-length s g (t .whole);
-        printable = rw same (t .printable);
-        cr = carriage-return rec long;
-        lf = line-feed rec long;
-        read = rw same (read-right s rec f (accepted-kept _ (t .fields)));
-        rules = rw same (ruled t few);
+      let line = lineFrom (bytesOf s g) in
+      let r = line-read (t .well) f in
+      let is = same (t .well) f in
+      let as-read : LineAs (g .which) s line = record {
+        long = r .long;
+        printable = r .printable;
+        cr = r .cr;
+        lf = r .lf;
+        read = r .read;
+        rules = rw is (ruled t few);
       } in
-      record { kept = line-kept s (lineFrom rec) line; moves = line-moves s (lineFrom rec) ok line ∙ ap (next (g .which) s) same }
+      record { kept = line-kept s line as-read; moves = line-moves s line ok as-read ∙ ap (next (g .which) s) is }

@@ -1,5 +1,5 @@
--- Where a call is in turn, its record, or a payment's first, may follow. Assumes nothing.
-use mathlib.Core.Path.{_≡_}
+-- A call is in turn exactly where its record, or a payment's first, may follow. Assumes nothing.
+use mathlib.Core.Path.{_≡_, refl}
 use mathlib.Core.Bool.{true}
 use Rattle.answer.specs.laws.Order.{never}
 use Rattle.layout.specs.declared.Direction.{Direction}
@@ -7,8 +7,8 @@ use Rattle.layout.specs.declared.Record.{Record}
 use Rattle.layout.specs.declared.Record.the-variants.{FileHeader, BatchHeader, BatchTrailer, FileTrailer}
 use Rattle.layout.specs.declared.pairs.Batch.{Batch}
 use Rattle.checker.specs.declared.order.Phase.{Phase}
-use Rattle.checker.specs.declared.order.Phase.the-variants.{Start, Headed, Opened, Begun, Paid, Noted, Closed, Ended}
-use Rattle.checker.specs.laws.Edges.{Begins, Follows, heads, first-batch, first-payment, pays-behind, pays-noted, closes-paid, closes-noted, next-batch, ends}
+use Rattle.checker.specs.declared.order.Phase.the-variants.{Start, Headed, Opened, Begun, Paid, BehindZ, Closed, Ended}
+use Rattle.checker.specs.laws.Edges.{Begins, by-A, by-J, Follows, heads, first-batch, first-payment, pays-behind, pays-behind-z, closes-paid, closes-behind-z, next-batch, ends}
 use Rattle.writer.specs.Refusals.{turns}
 
 pub record InTurn (p : Phase) (d : Direction) (b : Batch) : Type 0 where
@@ -24,6 +24,30 @@ in-turn Headed d b = record { header = never; batch = λ e. first-batch; payment
 in-turn Opened d b = record { header = never; batch = never; payment = λ e. first-payment; trailer = never; end = never }
 in-turn Begun d b = record { header = never; batch = never; payment = λ e. never e; trailer = never; end = never }
 in-turn Paid d b = record { header = never; batch = never; payment = λ e. pays-behind; trailer = λ e. closes-paid; end = never }
-in-turn Noted d b = record { header = never; batch = never; payment = λ e. pays-noted; trailer = λ e. closes-noted; end = never }
+in-turn BehindZ d b = record { header = never; batch = never; payment = λ e. pays-behind-z; trailer = λ e. closes-behind-z; end = never }
 in-turn Closed d b = record { header = never; batch = λ e. next-batch; payment = λ e. never e; trailer = never; end = λ e. ends }
 in-turn Ended d b = record { header = never; batch = never; payment = λ e. never e; trailer = never; end = never }
+
+-- ---- and the other way
+
+pub header-turn : {d : Direction} {b : Batch} {p : Phase} → Follows d b p FileHeader → turns p .header ≡ true
+header-turn heads = refl
+
+pub batch-turn : {d : Direction} {b : Batch} {p : Phase} → Follows d b p BatchHeader → turns p .batch ≡ true
+batch-turn first-batch = refl
+batch-turn next-batch = refl
+
+pub payment-turn : {d : Direction} {b : Batch} {p : Phase} {r : Record} → Begins b r → Follows d b p r → turns p .payment ≡ true
+payment-turn by-A (first-payment f) = refl
+payment-turn by-A (pays-behind f) = refl
+payment-turn by-A (pays-behind-z f) = refl
+payment-turn by-J (first-payment f) = refl
+payment-turn by-J (pays-behind f) = refl
+payment-turn by-J (pays-behind-z f) = refl
+
+pub trailer-turn : {d : Direction} {b : Batch} {p : Phase} → Follows d b p BatchTrailer → turns p .trailer ≡ true
+trailer-turn closes-paid = refl
+trailer-turn closes-behind-z = refl
+
+pub end-turn : {d : Direction} {b : Batch} {p : Phase} → Follows d b p FileTrailer → turns p .end ≡ true
+end-turn ends = refl

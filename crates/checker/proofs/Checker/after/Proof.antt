@@ -1,6 +1,6 @@
 -- `checker::Checker::after` meets its contract, record by record. Assumes nothing.
 use mathlib.Core.Path.{_∙_}
-use Rattle.checker.proofs.Turns.{detail-next}
+use Rattle.checker.proofs.Rounds.{detail-next}
 use borrow.Author.Needs.{needs}
 use Rattle.checker.proofs.Checker.after.Statement.{statement}
 use Rattle.checker.proofs.Checker.after.Tie as tie

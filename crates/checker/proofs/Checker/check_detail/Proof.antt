@@ -21,7 +21,7 @@ head-is c =
     let segment = c .before .before .before .before .before .before .before in
     ahead (c .and-then4 .ensures) _ _ (c .before .before .before .before .before .before .before .before .before .before .before .before .before .before .check-bank .ensures)
     (ahead (c .before .and-then3 .ensures) _ _ (c .before .before .before .before .before .before .before .before .before .before .before .before .check-batch .ensures)
-    (ahead (c .before .before .and-then2 .ensures) _ _ (c .before .before .before .before .before .before .before .before .before .before .check-reads .ensures)
+    (ahead (c .before .before .and-then2 .ensures) _ _ (c .before .before .before .before .before .before .before .before .before .before .check-records .ensures)
     (joined (c .before .before .before .and-then .ensures) _ _
     (segment .test .ensures ∙ ap (λ (k : Bool). firstBroken (rule 11 14 k ∷ [])) (segment .before .segment-fits .ensures) ∙ segment-rule _ _ (start .pre .0) (start .args .which))
     (rw (limit .before .before .payments-of .ensures .0) at (limit .test2 .ensures)))))

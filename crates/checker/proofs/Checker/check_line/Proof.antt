@@ -19,7 +19,7 @@ front c =
 
 returns : tie.Need-returns
 unfolding lineRules
-returns c = c .check-due .ensures ∙ gone-on _ _ (sym (front (c .before .before .before)) ∙ c .before .enum-told .given .1)
+returns c = c .check-reading .ensures ∙ gone-on _ _ (sym (front (c .before .before .before)) ∙ c .before .enum-told .given .1)
 
 returns-2 : tie.Need-returns-2
 unfolding lineRules

@@ -1,16 +1,22 @@
 -- `checker::Checker::finish` meets its contract: the run, then the end. Assumes nothing.
-use Rattle.checker.specs.File.{finish}
+use mathlib.Core.Path.{_≡_, _∙_}
 use borrow.Author.Needs.{needs}
+use denote.Ref.{now}
+use Rattle.checker.specs.File.{linesOf, steps, endOf, outcome, finish}
+use Rattle.checker.proofs.Rounds.{then-end}
 use Rattle.checker.proofs.Checker.finish.Statement.{statement}
 use Rattle.checker.proofs.Checker.finish.Tie as tie
 
-returns : tie.Need-returns
+-- behind the run, its answer and the end of its state are the contract's
+behind : (c : tie.After-run) → outcome (c .run .result .answer) (endOf (c .run .result .state)) ≡ finish (c .before .before .args .self) (now (c .before .before .args .rest))
 unfolding finish
-returns c = rw (← (c .before .before .before .before .run .ensures), c .before .enum-told .given .1) (c .end .ensures)
+behind c = then-end (c .before .before .args .self) (steps (c .before .before .args .self) (linesOf (now (c .before .before .args .rest)))) (c .run .result) (c .run .ensures)
+
+returns : tie.Need-returns
+returns c = c .end .ensures ∙ (rw (c .before .enum-told .given .1) at (behind (c .before .before .before .before)))
 
 returns-2 : tie.Need-returns-2
-unfolding finish
-returns-2 c = rw (← (c .before .before .before .before .run .ensures), c .before .answer .given .1)
+returns-2 c = rw (c .before .answer .given .1) at (behind (c .before .before .before .before))
 
 pub finish-spec : {M : Type 1} → statement M
 finish-spec =

@@ -4,7 +4,7 @@ use Rattle.checker.proofs.Checker.moved.Statement.{statement}
 use Rattle.checker.proofs.Checker.moved.Tie as tie
 
 returns : tie.Need-returns
-returns c = rw (← (c .before .before .before .before .line-is .ensures), c .before .before .due .given .1) (c .after .ensures)
+returns c = rw (← (c .before .before .before .before .line-is .ensures), c .before .before .reading .given .1) (c .after .ensures)
 
 returns-2 : tie.Need-returns-2
 returns-2 c = rw (← (c .before .before .line-is .ensures), c .enum-told .given .1)

@@ -5,16 +5,16 @@ use native.Mathlib.Omega.{arith}
 use borrow.Author.Needs.{needs}
 use denote.Ref.{now}
 use lib.ListN.{length, drop}
-use Rattle.checker.specs.File.{run, linesOf, unless, steps}
-use Rattle.checker.proofs.Turns.{turn, no-more, stop-here}
+use Rattle.checker.specs.File.{linesOf, unless, steps}
+use Rattle.checker.proofs.Rounds.{turn, no-more, stop-here, all-done}
 use Rattle.checker.proofs.Checker.run.Statement.{statement}
 use Rattle.checker.proofs.Checker.run.Tie as tie
 
 abbrev Inv-loop : tie.InvT-loop
-Inv-loop part state₀ at₀ state at = (at ≤ length part) × (steps state (linesOf (drop at part)) ≡ run state₀ part)
+Inv-loop self part state₀ at₀ state at = (at ≤ length part) × (steps state (linesOf (drop at part)) ≡ steps self (linesOf part))
 
 abbrev μ-loop : tie.MeasureT-loop
-μ-loop part state₀ at₀ state at = length part - at
+μ-loop self part state₀ at₀ state at = length part - at
 
 loop-holds : tie.Need-loop-holds Inv-loop μ-loop
 loop-holds c = (omega arith, refl)
@@ -22,7 +22,7 @@ loop-holds c = (omega arith, refl)
 -- behind a step: its answer, or the steps from the line's end on, are all steps'
 here : (c : tie.After-step Inv-loop μ-loop)
     → unless (c .step .result .answer) (steps (c .step .result .state) (linesOf (drop (c .before .before .part-end .result) (now (c .before .before .before .before .before .before .args .part))))) (c .step .result)
-    ≡ run (c .before .before .before .before .before .before .args .self) (now (c .before .before .before .before .before .before .args .part))
+    ≡ steps (c .before .before .before .before .before .before .args .self) (linesOf (now (c .before .before .before .before .before .before .args .part)))
 here c =
     let at-loop = c .before .before .before .before in
     rw (c .step .ensures)
@@ -35,7 +35,7 @@ loop-again : tie.Need-loop-again Inv-loop μ-loop
 loop-again c = (omega arith, rw (c .before .enum-told .given .1) at (here (c .before .before .before)))
 
 returns-2 : tie.Need-returns-2 Inv-loop μ-loop
-returns-2 c = sym (no-more _ _ _ (c .loop-test .left)) ∙ c .before .loop .inv .1
+returns-2 c = all-done _ _ (sym (no-more _ _ _ (c .loop-test .left)) ∙ c .before .loop .inv .1)
 
 pub run-spec : {M : Type 1} → statement M
 run-spec =

@@ -11,7 +11,7 @@ unfolding boletoRules
 returns c =
     let amount = c .before .before .before in
     let cents = amount .before .before in
-    let due = cents .before .before in
+    let due = cents .before .before .before in
     let check = due .before .before in
     ahead (c .and-then3 .ensures) _ _ (check .test .ensures ∙ rw (check .before .is-sealed .ensures))
     (ahead (c .before .and-then2 .ensures) _ _ (due .test2 .ensures ∙ rw (due .before .due-fits .ensures))
@@ -26,6 +26,7 @@ check-boleto-spec =
     (λ c. search needs)
     (λ c. search needs)
     (λ c. search needs)
+    (λ c κs. search needs)
     (λ c κs. search needs)
     (λ c κs. search needs)
     (λ c κs. search needs)

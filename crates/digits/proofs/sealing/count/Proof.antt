@@ -1,10 +1,12 @@
 -- `digits::sealing::count` meets its contract. Assumes nothing.
 use mathlib.Core.Path.{sym, ap}
+use native.Mathlib.Nat.{lt-of-le-of-lt, mul-le-mul}
 use native.Mathlib.Omega.{arith}
 use borrow.Author.Needs.{needs}
+use lib.Dec.{lit<}
 use Rattle.digits.specs.Checks.{counts}
 use Rattle.digits.specs.declared.sealing.Modulus.{Modulus}
-use Rattle.digits.specs.declared.sealing.Modulus.the-variants.{Ten, Eleven}
+use Rattle.digits.specs.declared.sealing.Modulus.the-variants.{Ten}
 use Rattle.digits.proofs.Small.{counts-small}
 use Rattle.digits.proofs.sealing.count.Statement.{statement}
 use Rattle.digits.proofs.sealing.count.Tie as tie
@@ -17,9 +19,9 @@ add-result : tie.Need-add-result
 unfolding counts
 add-result c = omega (arith, counts-small Ten (c .before .before .args .k) (c .before .before .args .d) (c .before .before .pre))
 
+-- a weight is at most 9, and so is a digit
 mul-result : tie.Need-mul-result
-unfolding counts
-mul-result c = omega (arith, counts-small Eleven (c .before .before .args .k) (c .before .before .args .d) (c .before .before .pre))
+mul-result c = record { fits = lt-of-le-of-lt (mul-le-mul {n₂ = 9} {m₂ = 9} (omega arith) (c .before .before .pre)) (lit< tt) }
 
 returns : tie.Need-returns
 unfolding counts

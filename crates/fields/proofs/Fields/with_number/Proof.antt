@@ -1,14 +1,14 @@
 -- `fields::Fields::with_number` meets its contract. Assumes nothing.
+use mathlib.Core.Path.{sym, _∙_}
 use borrow.Author.Needs.{needs}
-use borrow.Author.Tests.{lt-ltb, le-ltb}
 use Rattle.fields.proofs.Fields.with_number.Statement.{statement}
 use Rattle.fields.proofs.Fields.with_number.Tie as tie
 
 returns : tie.Need-returns
-returns c = rw (lt-ltb _ _ (c .if1 .taken))
+returns c = rw (sym (c .before .before .is-of .ensures) ∙ c .before .if1 .taken) (c .set-nth .ensures)
 
 returns-2 : tie.Need-returns-2
-returns-2 c = rw (le-ltb _ _ (c .if1 .left))
+returns-2 c = rw (sym (c .before .before .is-of .ensures) ∙ c .before .if1 .left) (c .spoiled .ensures)
 
 pub with-number-spec : {M : Type 1} → statement M
-with-number-spec = tie.close (tie.spec (λ c. search needs) (λ c. search needs) returns returns-2)
+with-number-spec = tie.close (tie.spec (λ c κs. search needs) (λ c κs. search needs) returns (λ c κs. search needs) returns-2)

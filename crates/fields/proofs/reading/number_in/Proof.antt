@@ -1,6 +1,6 @@
 -- `fields::reading::number_in` meets its contract. Assumes nothing.
 use borrow.Author.Needs.{needs}
-use Rattle.fields.proofs.Fills.{as-number, as-text, as-string}
+use Rattle.fields.proofs.Fills.{as-number, as-text, as-fixed}
 use Rattle.fields.proofs.reading.number_in.Statement.{statement}
 use Rattle.fields.proofs.reading.number_in.Tie as tie
 
@@ -20,7 +20,7 @@ returns-3 : tie.Need-returns-3
 returns-3 c = rw (as-text (c .before .before .before .before .args .k) (c .before .before .fill-of .ensures) (c .enum-told3 .given .1))
 
 returns-4 : tie.Need-returns-4
-returns-4 c = rw (as-string (c .before .before .before .before .args .k) (c .before .before .fill-of .ensures) (c .enum-told4 .given .1) .held)
+returns-4 c = rw (as-fixed (c .before .before .before .before .args .k) (c .before .before .fill-of .ensures) (c .enum-told4 .given .1) .held)
 
 pub number-in-spec : {M : Type 1} → statement M
 number-in-spec =

@@ -7,7 +7,7 @@ use Rattle.layout.specs.Table.{Field}
 use Rattle.layout.specs.Kinds.{means}
 use Rattle.layout.specs.laws.Columns.{in-record}
 use Rattle.fields.specs.Values.{heldAs, isNumber, isNumberAt}
-use Rattle.fields.proofs.Fills.{as-number, as-text, as-string}
+use Rattle.fields.proofs.Fills.{as-number, as-text, as-fixed}
 use Rattle.fields.proofs.table.is_number.Statement.{statement}
 use Rattle.fields.proofs.table.is_number.Tie as tie
 
@@ -35,7 +35,7 @@ returns-3 c =
 returns-4 : tie.Need-returns-4
 returns-4 c =
     let at-fill = c .before .before in
-    sym (held at-fill ∙ ap isNumber (as-string (at-fill .before .entry-of .result .kind) (at-fill .fill-of .ensures) (c .enum-told3 .given .1) .held))
+    sym (held at-fill ∙ ap isNumber (as-fixed (at-fill .before .entry-of .result .kind) (at-fill .fill-of .ensures) (c .enum-told3 .given .1) .held))
 
 pub is-number-spec : {M : Type 1} → statement M
 is-number-spec =

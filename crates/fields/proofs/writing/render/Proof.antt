@@ -17,28 +17,28 @@ use Rattle.fields.proofs.writing.render.Statement.{statement}
 use Rattle.fields.proofs.writing.render.Tie as tie
 
 abbrev Inv-loop : tie.InvT-loop
-Inv-loop from to kind fixed out₀ numbers text first past f₀ out f =
+Inv-loop from to kind out₀ numbers text first past f₀ out f =
     (first ≤ f) × (f ≤ past) × (past ≤ fieldCount) × (past ≤ first + mostFields) × (length out ≡ length out₀) × (length text ≡ recordBytes)
     × (putFields (slice f past all) (drop (f - first) numbers) text out ≡ putFields (slice first past all) numbers text out₀)
 
 abbrev μ-loop : tie.MeasureT-loop
-μ-loop from to kind fixed out₀ numbers text first past f₀ out f = past - f
+μ-loop from to kind out₀ numbers text first past f₀ out f = past - f
 
 loop-holds : tie.Need-loop-holds Inv-loop μ-loop
 loop-holds c =
     let e = c .span-of .ensures in
-    let start = c .before .before .before .before .before in
-    (search needs, in-order _ e, in-table _ e, narrow _ e, refl, simp length-map at (start .good .1 .1 .1 .1 .0 .1 .1 .1 .0 .1 .0 .1), rw sub-self)
+    let start = c .before .before .before .before in
+    (search needs, in-order _ e, in-table _ e, narrow _ e, refl, simp length-map at (start .good .1 .1 .1 .0 .1 .1 .1 .1 .0 .1 .0 .1), rw sub-self)
 
 write-field-requires : tie.Need-write-field-requires Inv-loop μ-loop
 write-field-requires c κs =
     let e = c .before .before .before .before .field-at .result in
     let s = c .before .before .before .before .field-at .ensures in
     let l = c .before .before .before .before .before .before .loop in
-    let start = c .before .before .before .before .before .before .before .before .before .before .before .before in
+    let start = c .before .before .before .before .before .before .before .before .before .before .before in
     let given = length-places (e .from) (e .to) (start .args .v .text) (omega (arith, s .high, l .inv .5)) in
-    let lent = length-places (e .from) (e .to) (l .out) (omega (arith, s .high, l .inv .4, start .pre .1 .1)) in
-    ((given ∙ sym lent, rw lent (s .may)), start .pre .1 .0)
+    let lent = length-places (e .from) (e .to) (l .out) (omega (arith, s .high, l .inv .4, start .pre .1)) in
+    (given ∙ sym lent, rw lent (s .may))
 
 loop-again : tie.Need-loop-again Inv-loop μ-loop
 loop-again c =
@@ -61,9 +61,9 @@ unfolding recordOf
 returns c =
     let l = c .before .loop in
     let e = c .before .before .span-of .ensures in
-    let start = c .before .before .before .before .before .before .before in
-    let r = start .args .which in
-    sym (put-end _ _ _ _ (l .out) (l .inv .1) (c .loop-test .left)) ∙ l .inv .6 ∙ put-record _ (l .inv .5) r _ _ _ (rw (first-is r e, past-is r e) (laid r .fields)) (start .pre .1 .1)
+    let start = c .before .before .before .before .before .before in
+    let r = start .args .v .which in
+    sym (put-end _ _ _ _ (l .out) (l .inv .1) (c .loop-test .left)) ∙ l .inv .6 ∙ put-record _ (l .inv .5) r _ _ _ (rw (first-is r e, past-is r e) (laid r .fields)) (start .pre .1)
 
 pub render-spec : {M : Type 1} → statement M
 render-spec =

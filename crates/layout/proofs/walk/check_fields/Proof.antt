@@ -13,7 +13,7 @@ use Rattle.layout.proofs.walk.check_fields.Statement.{statement}
 use Rattle.layout.proofs.walk.check_fields.Tie as tie
 
 -- the end is the record's own, or comes before it
-end-is : (c : tie.After-least) → c .least .result ≡ min (c .before .before .before .before .before .args .past) (length (fieldsOf (c .before .before .before .before .before .args .which)))
+end-is : (c : tie.After-least) → c .least .result ≡ min (c .before .before .before .before .args .past) (length (fieldsOf (c .before .before .before .before .args .which)))
 end-is c = c .least .ensures ∙ rw (many-is _ (c .before .before .span-of .ensures))
 
 sub-least : tie.Need-sub-least
@@ -36,7 +36,7 @@ add-walk-2 c =
 
 walk-requires : tie.Need-walk-requires
 walk-requires c κs =
-    let start = c .before .before .before .before .before .before .before .before .before in
+    let start = c .before .before .before .before .before .before .before .before in
     let s = c .before .before .before .before .before .before .span-of .ensures in
     let h = in-table _ s in
     let o = in-order _ s in
@@ -44,7 +44,7 @@ walk-requires c κs =
     let m = many-is _ s in
     let e = c .before .before .before .before .least .ensures in
     let masks = c .before .before .hold .ensures in
-    (start .pre .0, (start .pre .1 .0, ((start .pre .1 .1, omega arith, omega arith), record { each = λ t g l u. right-at (start .args .dir) (start .args .rec .now) (start .pre .1 .1) (start .args .which) (sym masks ∙ t) g (omega arith) (omega arith) })))
+    (start .pre .0, ((start .pre .1, omega arith, omega arith), record { each = λ t g l u. right-at (start .args .dir) (start .args .rec .now) (start .pre .1) (start .args .which) (sym masks ∙ t) g (omega arith) (omega arith) }))
 
 returns : tie.Need-returns
 unfolding rulesOf
@@ -52,7 +52,7 @@ returns c = rw (no-fields-left _ _ _ _ (end-is (c .before)) (c .if1 .taken)) don
 
 returns-2 : tie.Need-returns-2
 returns-2 c =
-    let start = c .before .before .before .before .before .before .before .before .before .before in
+    let start = c .before .before .before .before .before .before .before .before .before in
     let s = c .before .before .before .before .before .before .before .span-of .ensures in
     c .walk .ensures ∙ rw (first-is _ s, some-fields (start .args .which) _ _ _ (end-is (c .before .before .before .before .before)))
 

@@ -1,6 +1,6 @@
 -- `layout::walk::walk` meets its contract. The fields' loop: the answer for the fields from f on is that for all. The digits' loop: the digits
--- are i and those that the rest begins with. The text's loop: the rest is the same just if all is. Assumes nothing.
-use mathlib.Core.Path.{_≡_, refl, sym, ap, _∙_}
+-- are i and those that the rest begins with. The content's loop: the rest is the same just if all is. Assumes nothing.
+use mathlib.Core.Path.{_≡_, refl, sym, _∙_}
 use mathlib.Core.Logic.{⊎-elim}
 use mathlib.Core.Bool.{true, not, _&&_}
 use mathlib.Core.List.{List}
@@ -9,43 +9,41 @@ use native.Mathlib.Omega.{arith}
 use borrow.Author.Needs.{needs}
 use borrow.Author.Tests.{not-true}
 use denote.Ref.{now}
-use lib.ListN.{length, take, drop}
+use lib.ListN.{length, drop}
 use lib.Seq.{slice}
 use Rattle.answer.specs.Rules.{Rule, firstBroken}
 use Rattle.answer.specs.declared.Answer.the-variants.{Accepted}
 use Rattle.digits.specs.Digits.{leading, places}
 use Rattle.layout.specs.Table.{all}
-use Rattle.layout.specs.inner.Lent.{kindOf, whole?, fixedText, fixedBytes}
-use Rattle.layout.specs.Kinds.{aPart, means, same}
+use Rattle.layout.specs.inner.Lent.{kindOf, whole?}
+use Rattle.layout.specs.Kinds.{aPart, means}
 use Rattle.layout.specs.Record.{rulesOf}
 use Rattle.layout.specs.laws.Bytes.{and-left, and-right, length-places}
-use Rattle.layout.specs.laws.Texts.{fixed-length, text-is, text-length}
 use Rattle.layout.specs.declared.Direction.{Direction}
 use Rattle.layout.specs.declared.table.Entry.{Entry}
-use Rattle.layout.proofs.Rows.{digits-looked, text-room, text-looked, was-tested}
-use Rattle.layout.proofs.Turns.{digit-more, digit-wrong, digits-end, byte-more, byte-wrong, text-end, only-kept, only-broken, Here, here-at, skip-at, finished}
+use Rattle.layout.proofs.Rows.{digits-looked, content-looked, was-tested}
+use Rattle.layout.proofs.Rounds.{digit-more, digit-wrong, digits-end, Compared, byte-more, byte-wrong, content-end, only-kept, only-broken, Here, here-at, skip-at, finished}
 use Rattle.layout.proofs.walk.walk.Statement.{statement}
 use Rattle.layout.proofs.walk.walk.Tie as tie
 
 abbrev Inv-loop : tie.InvT-loop
-Inv-loop from to kind fixed rec first past dir masked f k place start end part i₀ i = (i ≤ length part) × (i + leading (drop i part) ≡ leading part)
+Inv-loop from to kind rec first past dir masked f k place start end part i₀ i = (i ≤ length part) × (i + leading (drop i part) ≡ leading part)
 
 abbrev μ-loop : tie.MeasureT-loop
-μ-loop from to kind fixed rec first past dir masked f k place start end part i₀ i = length part - i
+μ-loop from to kind rec first past dir masked f k place start end part i₀ i = length part - i
 
 abbrev Inv-loop2 : tie.InvT-loop2
-Inv-loop2 from to kind fixed rec first past dir masked f k place start end part number at text-end text i₀ i =
-    (i ≤ length part) × (length text ≡ length part) × (text ≡ take (length part) (drop at fixedText)) × (same (drop i text) (drop i part) ≡ same text part)
+Inv-loop2 from to kind rec first past dir masked f k place start end part number content i₀ i = (i ≤ length part) × Compared content part i
 
 abbrev μ-loop2 : tie.MeasureT-loop2
-μ-loop2 from to kind fixed rec first past dir masked f k place start end part number at text-end text i₀ i = length part - i
+μ-loop2 from to kind rec first past dir masked f k place start end part number content i₀ i = length part - i
 
 abbrev Inv-fields : tie.InvT-fields
-Inv-fields from to kind fixed rec first past dir masked f₀ f =
+Inv-fields from to kind rec first past dir masked f₀ f =
     (f ≤ past) × (firstBroken (rulesOf (slice f past all) dir rec) ≡ firstBroken (rulesOf (slice first past all) dir rec)) × (first ≤ f)
 
 abbrev μ-fields : tie.MeasureT-fields
-μ-fields from to kind fixed rec first past dir masked f₀ f = past - f
+μ-fields from to kind rec first past dir masked f₀ f = past - f
 
 -- what the answer is if the field at hand is right, and if not
 module _ (c : tie.After-field-at Inv-loop μ-loop Inv-loop2 μ-loop2 Inv-fields μ-fields) where
@@ -53,21 +51,21 @@ module _ (c : tie.After-field-at Inv-loop μ-loop Inv-loop2 μ-loop2 Inv-fields 
   entry = c .field-at .result
 
   abbrev rec-of : List ℕ
-  rec-of = c .before .before .before .before .before .args .rec .now
+  rec-of = c .before .before .before .before .args .rec .now
 
   abbrev dir-of : Direction
-  dir-of = c .before .before .before .before .before .args .dir
+  dir-of = c .before .before .before .before .args .dir
 
   abbrev rules-of : List Rule
   rules-of = means (kindOf (entry .kind)) .rules (aPart (entry .from) (places (entry .from) (entry .to) rec-of) rec-of dir-of)
 
-  here : Here rec-of dir-of (c .before .before .fields .f) (c .before .before .before .before .before .args .past) rules-of
-  here = here-at _ _ _ _ (c .before .if1 .left) (c .before .before .before .before .before .pre .1 .1 .0 .2) (c .field-at .ensures)
+  here : Here rec-of dir-of (c .before .before .fields .f) (c .before .before .before .before .args .past) rules-of
+  here = here-at _ _ _ _ (c .before .if1 .left) (c .before .before .before .before .pre .1 .0 .2) (c .field-at .ensures)
 
-  skipped : (c .before .before .before .before .before .args .masked) && not (whole? (entry .kind)) ≡ true → firstBroken rules-of ≡ Accepted
+  skipped : (c .before .before .before .before .args .masked) && not (whole? (entry .kind)) ≡ true → firstBroken rules-of ≡ Accepted
   skipped t =
-      let start = c .before .before .before .before .before in
-      skip-at _ _ _ _ (start .pre .1 .1 .1) (and-left (start .args .masked) _ t) (c .before .before .fields .inv .2) (c .before .if1 .left) (c .field-at .ensures)
+      let start = c .before .before .before .before in
+      skip-at _ _ _ _ (start .pre .1 .1) (and-left (start .args .masked) _ t) (c .before .before .fields .inv .2) (c .before .if1 .left) (c .field-at .ensures)
       (not-true _ (and-right (start .args .masked) _ t))
 
 fields-again : tie.Need-fields-again Inv-loop μ-loop Inv-loop2 μ-loop2 Inv-fields μ-fields
@@ -79,8 +77,8 @@ look-at-requires : tie.Need-look-at-requires Inv-loop μ-loop Inv-loop2 μ-loop2
 look-at-requires c κs =
     let e = c .before .before .before .field-at .result in
     let s = c .before .before .before .field-at .ensures in
-    let start = c .before .before .before .before .before .before .before .before in
-    let long = start .pre .1 .1 .0 .0 in
+    let start = c .before .before .before .before .before .before .before in
+    let long = start .pre .1 .0 .0 in
     (rw (length-places (e .from) (e .to) (start .args .rec .now) (omega (arith, s .high, long))) (s .may), (long, omega (arith, s .order, s .high)))
 
 loop-again : tie.Need-loop-again Inv-loop μ-loop Inv-loop2 μ-loop2 Inv-fields μ-fields
@@ -88,27 +86,10 @@ loop-again c =
     let l = c .before .before .before in
     (search needs, digit-more _ _ (l .loop .inv .1) (c .before .before .loop-test .taken) (c .if3 .left))
 
-add-text-end : tie.Need-add-text-end Inv-loop μ-loop Inv-loop2 μ-loop2 Inv-fields μ-fields
-add-text-end c = omega (arith, text-room (c .before .before .before .look-at .ensures) (c .before .how .given .1))
-
-part-text-end : tie.Need-part-text-end Inv-loop μ-loop Inv-loop2 μ-loop2 Inv-fields μ-fields
-part-text-end c =
-    let start = c .before .before .before .before .before .before .before .before .before .before .before .before in
-    let long : length (start .args .fixed .now) ≡ fixedBytes = ap length (start .pre .1 .0) ∙ fixed-length in
-    omega (arith, text-room (c .before .before .before .look-at .ensures) (c .before .how .given .1), long)
-
-loop2-holds : tie.Need-loop2-holds Inv-loop μ-loop Inv-loop2 μ-loop2 Inv-fields μ-fields
-loop2-holds c =
-    let start = c .before .before .before .before .before .before .before .before .before .before .before .before .before in
-    let at = c .before .before .how .given .0 .1 .0 in
-    let wide = length (places (c .before .before .before .before .before .before .before .before .field-at .result .from) (c .before .before .before .before .before .before .before .before .field-at .result .to) (start .args .rec .now)) in
-    let room = text-room (c .before .before .before .before .look-at .ensures) (c .before .before .how .given .1) in
-    (zero-le, text-length at wide _ (start .pre .1 .0) room, text-is at wide _ (start .pre .1 .0), refl)
-
 loop2-again : tie.Need-loop2-again Inv-loop μ-loop Inv-loop2 μ-loop2 Inv-fields μ-fields
 loop2-again c =
     let l = c .before .before .before .before in
-    (search needs, l .loop2 .inv .1, l .loop2 .inv .2, byte-more _ _ _ (l .loop2 .inv .1) (l .loop2 .inv .3) (c .before .before .before .loop2-test .taken) (c .if4 .left))
+    (search needs, byte-more (l .loop2 .inv .1) (c .before .byte-at .ensures) (c .before .before .before .loop2-test .taken) (c .if4 .left))
 
 fields-again-2 : tie.Need-fields-again-2 Inv-loop μ-loop Inv-loop2 μ-loop2 Inv-fields μ-fields
 fields-again-2 c =
@@ -119,7 +100,7 @@ fields-again-2 c =
           (⊎-elim
           (λ w. only-kept (digits-looked look (w .1 .given .1)) (digits-end _ _ (w .2 .inv .1) (w .2 .inv .0) (w .3 .left)))
           (⊎-elim
-          (λ w. only-kept (text-looked look (w .1 .given .1)) (rw (← (w .4 .inv .2)) (text-end _ _ _ (w .4 .inv .1) (w .4 .inv .3) (w .5 .left))))
+          (λ w. only-kept (content-looked look (w .1 .given .1)) (content-end (w .3 .inv .1) (w .4 .left)))
           (λ w. sym (was-tested look (w .1 .given .1)) ∙ w .4 .given .1))
           (c .match .came))
           ∙ at-field .before .before .fields .inv .1,
@@ -139,10 +120,10 @@ returns-2 c =
 returns-3 : tie.Need-returns-3 Inv-loop μ-loop Inv-loop2 μ-loop2 Inv-fields μ-fields
 returns-3 c =
     let l = c .before .before .before .before .before in
-    let told = l .before .before .before in
+    let told = l .before .before in
     let look = told .before .before in
-    let wrong = byte-wrong _ _ _ (l .loop2 .inv .1) (l .loop2 .inv .3) (c .before .before .before .before .loop2-test .taken) (c .before .if4 .taken) in
-    c .refused2 .ensures ∙ here (look .before .before .before .before) .bad (only-broken (text-looked (look .look-at .ensures) (told .how .given .1)) (rw (← (l .loop2 .inv .2)) wrong)) ∙ look .before .before .before .before .before .before .fields .inv .1
+    let wrong = byte-wrong (l .loop2 .inv .1) (c .before .before .byte-at .ensures) (c .before .before .before .before .loop2-test .taken) (c .before .if4 .taken) in
+    c .refused2 .ensures ∙ here (look .before .before .before .before) .bad (only-broken (content-looked (look .look-at .ensures) (told .how .given .1)) wrong) ∙ look .before .before .before .before .before .before .fields .inv .1
 
 returns-4 : tie.Need-returns-4 Inv-loop μ-loop Inv-loop2 μ-loop2 Inv-fields μ-fields
 returns-4 c =
@@ -179,13 +160,9 @@ walk-spec =
     (λ c. search needs)
     loop-again
     (λ c. search needs)
-    add-text-end
+    (λ c. (zero-le, record { rest = refl }))
     (λ c. search needs)
-    (λ c. search needs)
-    part-text-end
-    loop2-holds
-    (λ c. search needs)
-    (λ c. search needs)
+    (λ c κs. search needs)
     (λ c κs. search needs)
     (λ c. search needs)
     (λ c. search needs)

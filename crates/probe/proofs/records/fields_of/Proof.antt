@@ -8,11 +8,11 @@ use Rattle.probe.proofs.records.fields_of.Statement.{statement}
 use Rattle.probe.proofs.records.fields_of.Tie as tie
 
 abbrev Inv-loop : tie.InvT-loop
-Inv-loop given many numbers-end numbers₀ i₀ numbers i =
+Inv-loop given which many numbers-end numbers₀ i₀ numbers i =
     (i ≤ many) × (many ≤ mostNumbers) × (numbers-end ≡ many * numberDigits) × (length given ≡ numbers-end + 240)
 
 abbrev μ-loop : tie.MeasureT-loop
-μ-loop given many numbers-end numbers₀ i₀ numbers i = many - i
+μ-loop given which many numbers-end numbers₀ i₀ numbers i = many - i
 
 pub fields-of-spec : {M : Type 1} → statement M
 fields-of-spec =

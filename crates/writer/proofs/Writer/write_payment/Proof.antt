@@ -11,10 +11,10 @@ use Rattle.checker.specs.Machine.{lineOf}
 use Rattle.writer.proofs.Answering.{turned-away, refuses, accepts, has-room}
 use Rattle.writer.proofs.Held.{held-sound}
 use Rattle.writer.proofs.Lent.{whole, lent}
-use Rattle.writer.specs.Given.{given}
 use Rattle.writer.specs.Given.{recordsIn}
 use Rattle.writer.specs.Outcome.{cursorBehind}
-use Rattle.writer.specs.Refusals.{dueInPayment, allGiven, sumRule, size}
+use Rattle.writer.specs.Refusals.{sumRule, size}
+use Rattle.writer.specs.inner.Placed.{expectedInPayment, allGiven}
 use Rattle.writer.specs.inner.Steps.{paymentRules, linesWith}
 use borrow.Author.Needs.{needs}
 use denote.Ref.{now}
@@ -32,10 +32,10 @@ answered : (c : tie.After-and-then2) → let a = c .before .before .before .befo
 answered c =
     let a = c .before .before .before .before .before .before .before .before .before .before .before .before .before .args in
     let w = a .self in
-    let m = w .machine in
+    let m = w .checker in
     let last = sumRule m (a .p) ∷ room (cursorBehind w (recordsIn (a .p))) (now (a .out)) ∷ [] in
     let ok = held-sound m (c .before .before .before .before .before .before .before .before .before .before .before .before .before .pre (c .before .before .before .before .before .before .before .before .before .before .enum-told .given .1) .is-held) in
-    joined (c .and-then2 .ensures) (allGiven (dueInPayment m) m (recordsIn (a .p))) (rulesOnLine (lineOf m) last)
+    joined (c .and-then2 .ensures) (allGiven (expectedInPayment m) m (recordsIn (a .p))) (rulesOnLine (lineOf m) last)
     (c .before .before .before .before .before .before .before .before .try-payment .ensures .answered)
     (c .before .on-line .ensures
     ∙ rw (c .before .before .next-line .ensures, ok) (ap (onLine (lineOf m))
@@ -46,16 +46,16 @@ answered c =
 roomy : (c : tie.After-and-then2) → c .and-then2 .result ≡ Accepted → let a = c .before .before .before .before .before .before .before .before .before .before .before .before .before .args in cursorBehind (a .self) (recordsIn (a .p)) ≤ length (now (a .out))
 roomy c e =
     let a = c .before .before .before .before .before .before .before .before .before .before .before .before .before .args in
-    let m = a .self .machine in
-    has-room (allGiven (dueInPayment m) m (recordsIn (a .p))) (sumRule m (a .p) ∷ []) (lineOf m) _ (now (a .out)) (sym (answered c) ∙ e)
+    let m = a .self .checker in
+    has-room (allGiven (expectedInPayment m) m (recordsIn (a .p))) (sumRule m (a .p) ∷ []) (lineOf m) _ (now (a .out)) (sym (answered c) ∙ e)
 
 -- and so the records are accepted
 all-right : (c : tie.After-and-then2) → c .and-then2 .result ≡ Accepted → c .before .before .before .before .before .before .before .before .try-payment .result .answer ≡ Accepted
 all-right c e =
     let a = c .before .before .before .before .before .before .before .before .before .before .before .before .before .args in
-    let m = a .self .machine in
+    let m = a .self .checker in
     c .before .before .before .before .before .before .before .before .try-payment .ensures .answered
-    ∙ front-accepted (allGiven (dueInPayment m) m (recordsIn (a .p))) _ (sym (answered c) ∙ e)
+    ∙ front-accepted (allGiven (expectedInPayment m) m (recordsIn (a .p))) _ (sym (answered c) ∙ e)
 
 returns : tie.Need-returns
 returns c = turned-away _ _ _ (c .enum-told2 .given .1)
@@ -75,8 +75,12 @@ part-put-payment-start c = omega (arith, roomy (c .before .before .before .befor
 put-payment-requires : tie.Need-put-payment-requires
 put-payment-requires c κs =
     let a = c .before .before .before .before .before .before .before .before .before .before .before .before .before .before .before .before .before .before .before .before .args in
-    let fits = roomy (c .before .before .before .before .before .before .before) (c .before .before .before .before .before .enum-told4 .given .1) in
-    rw (whole (a .self .cursor) (now (a .out)) (omega arith), length-drop) (omega arith)
+    let told = c .before .before .before .before .before .enum-told4 .given .1 in
+    let fits = roomy (c .before .before .before .before .before .before .before) told in
+    let tried = c .before .before .before .before .before .before .before .before .before .before .before .before .before .before .before .try-payment .ensures in (
+      tried .right (all-right (c .before .before .before .before .before .before .before) told),
+      rw (whole (a .self .cursor) (now (a .out)) (omega arith), length-drop) (omega arith),
+    )
 
 add-t24 : tie.Need-add-t24
 add-t24 c =

@@ -1,23 +1,35 @@
 -- `writer::filling::fill_batch_trailer` meets its contract. Assumes nothing.
-use borrow.Author.Needs.{needs}
+use mathlib.Core.Path.{_≡_, ap, _∙_}
+use Prim.Native.Nat.{_+_}
 use native.Mathlib.Omega.{arith}
+use borrow.Author.Needs.{needs}
+use Rattle.layout.specs.Table.{fieldsOf}
+use Rattle.layout.specs.Names.{before, indexOf}
+use Rattle.layout.specs.declared.Record.{Record}
+use Rattle.layout.specs.declared.Record.the-variants.{BatchTrailer}
+use Rattle.fields.specs.Values.{setNth}
+use Rattle.fields.specs.laws.Named.{by-name}
+use Rattle.writer.specs.Filling.{batchRecordsIndex, batchSumIndex, filledInBatch}
 use Rattle.writer.proofs.filling.fill_batch_trailer.Statement.{statement}
 use Rattle.writer.proofs.filling.fill_batch_trailer.Tie as tie
 
-add-with-number : tie.Need-add-with-number
-add-with-number c = let b = c .before .before .before .pre in rw (c .before .before .current .ensures) (omega arith)
+add-t5 : tie.Need-add-t5
+add-t5 c = let b = c .before .before .pre .0 in rw (c .before .current .ensures) (omega arith)
 
 returns : tie.Need-returns
+unfolding indexOf before fieldsOf
 returns c =
-    rw (c .with-number2 .ensures, c .before .with-number .ensures, c .before .before .before .fill-in-batch .ensures, c .before .before .before .before .current .ensures)
+    let start = c .before .before .before .before .before in
+    let a = start .args in
+    let v = filledInBatch BatchTrailer (a .m) (a .v) in
+    let in-batch : c .before .before .fill-in-batch .result ≡ v
+    = c .before .before .fill-in-batch .ensures ∙ ap (λ (r : Record). filledInBatch r (a .m) (a .v)) (start .pre .1) in
+    let one : c .before .with-records .result ≡ setNth batchRecordsIndex (a .m .current .records .0 + 1) v
+    = c .before .with-records .ensures
+    ∙ rw (in-batch, c .before .before .before .before .current .ensures) (by-name BatchTrailer v (start .pre .1) batchRecordsIndex (a .m .current .records .0 + 1)) in
+    c .with-cents .ensures
+    ∙ rw (one, c .before .before .before .before .current .ensures) (by-name BatchTrailer (setNth batchRecordsIndex (a .m .current .records .0 + 1) v) (start .pre .1) batchSumIndex (a .m .current .cents .0))
 
 pub fill-batch-trailer-spec : {M : Type 1} → statement M
 fill-batch-trailer-spec =
-    tie.close
-    (tie.spec
-    (λ c κs. search needs)
-    (λ c κs. search needs)
-    add-with-number
-    (λ c κs. search needs)
-    (λ c κs. search needs)
-    returns)
+    tie.close (tie.spec (λ c κs. search needs) add-t5 (λ c κs. search needs) (λ c κs. search needs) (λ c κs. search needs) returns)

@@ -4,20 +4,11 @@ use native.Mathlib.Omega.{arith}
 use Rattle.writer.proofs.filling.fill_in_batch.Statement.{statement}
 use Rattle.writer.proofs.filling.fill_in_batch.Tie as tie
 
-add-with-number : tie.Need-add-with-number
-add-with-number c = let b = c .before .before .before .before .pre in rw (c .before .closed .ensures) (omega arith)
+add-fill-line : tie.Need-add-fill-line
+add-fill-line c = let b = c .before .before .before .pre in rw (c .before .closed .ensures) (omega arith)
 
 returns : tie.Need-returns
-returns c =
-    rw (c .with-number2 .ensures, c .before .before .closed .ensures, c .before .before .before .with-number .ensures, c .before .before .before .before .bank .ensures)
+returns c = rw (c .fill-line .ensures, c .before .before .closed .ensures, c .before .before .before .bank .ensures)
 
 pub fill-in-batch-spec : {M : Type 1} → statement M
-fill-in-batch-spec =
-    tie.close
-    (tie.spec
-    (λ c κs. search needs)
-    (λ c κs. search needs)
-    (λ c κs. search needs)
-    add-with-number
-    (λ c κs. search needs)
-    returns)
+fill-in-batch-spec = tie.close (tie.spec (λ c κs. search needs) (λ c κs. search needs) add-fill-line (λ c κs. search needs) returns)

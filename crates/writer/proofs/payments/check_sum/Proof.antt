@@ -5,9 +5,9 @@ use native.Mathlib.Omega.{arith}
 use Rattle.writer.proofs.payments.check_sum.Statement.{statement}
 use Rattle.writer.proofs.payments.check_sum.Tie as tie
 
-add-t10 : tie.Need-add-t10
-add-t10 c =
-    let b = bounded _ (c .before .before .before .before .before .before .pre) in
+add-t8 : tie.Need-add-t8
+add-t8 c =
+    let b = bounded _ (c .before .before .before .before .before .pre) in
     rw (c .before .before .before .closed .ensures, c .before .before .current .ensures) (omega arith)
 
 returns : tie.Need-returns
@@ -20,7 +20,7 @@ check-sum-spec =
     (tie.spec
     (λ c κs. search needs)
     (λ c κs. search needs)
-    add-t10
+    add-t8
     (λ c κs. search needs)
     (λ c κs. search needs)
     (λ c κs. search needs)

@@ -8,19 +8,21 @@ use Rattle.writer.proofs.payments.put_third.Tie as tie
 
 put-line-requires : tie.Need-put-line-requires
 put-line-requires c κs =
-    let a = c .before .before .before .before .args in
-    let h = third-room (a .p .noted) (a .p .third) _ (c .before .before .before .before .pre) in
-    let k = h .1 (c .before .before .if1 .taken) in
-    rw (whole 484 (a .part .now) (h .0), length-drop) (omega arith)
+    let start = c .before .before .before in
+    let a = start .args in
+    let h = third-room (a .p .triple) (a .p .third) _ (start .pre .1) in
+    let k = h .1 (c .before .if1 .taken) in
+    (start .pre .0 (c .before .if1 .taken), rw (whole 484 (a .part .now) (h .0), length-drop) (omega arith))
 
 returns : tie.Need-returns
 returns c =
-    let a = c .before .before .before .before .before .before .before .args in
-    third-put (a .p .noted) (a .p .third) _ (a .part .now) _ (c .before .before .before .before .before .if1 .taken)
-    (third-room (a .p .noted) (a .p .third) _ (c .before .before .before .before .before .before .before .pre) .0) (c .before .before .put-line .ensures)
+    let start = c .before .before .before .before .before .before in
+    let a = start .args in
+    third-put (a .p .triple) (a .p .third) _ (a .part .now) _ (c .before .before .before .before .if1 .taken)
+    (third-room (a .p .triple) (a .p .third) _ (start .pre .1) .0) (c .before .before .put-line .ensures)
 
 returns-2 : tie.Need-returns-2
-returns-2 c = let a = c .before .before .args in third-none (a .p .noted) (a .p .third) _ (a .part .now) (c .if1 .left)
+returns-2 c = let a = c .before .before .args in third-none (a .p .triple) (a .p .third) _ (a .part .now) (c .if1 .left)
 
 pub put-third-spec : {M : Type 1} → statement M
 put-third-spec =

@@ -1,0 +1,92 @@
+-- The demands, said of any checker, any writer and any converters of digit strings, whatever they are made of. Assumes nothing.
+use mathlib.Core.Path.{_≡_}
+use mathlib.Core.Logic.{_≢_, _↔_}
+use mathlib.Core.List.{List, [], _∷_}
+use Prim.Native.Nat.{ℕ, _≤_}
+use lib.ListN.{length, take, drop}
+use Rattle.answer.specs.Rules.{AllKept}
+use Rattle.answer.specs.declared.Refusal.{Refusal}
+use Rattle.answer.specs.declared.Answer.{Answer}
+use Rattle.answer.specs.declared.Answer.the-variants as answer
+use Rattle.digits.specs.Digits.{place}
+use Rattle.boleto.specs.Strings.{barcodeDigits, lineDigits}
+use Rattle.boleto.specs.Rules.{barcodeRules, digitLineRules}
+use Rattle.checker.specs.File.{checkFile}
+use Rattle.checker.specs.declared.order.Phase.the-variants.{Ended}
+use Rattle.checker.specs.declared.totals.Totals.{Totals}
+use Rattle.checker.specs.declared.file.Outcome.{Outcome}
+use Rattle.checker.specs.declared.file.Outcome.the-variants.{Accepted, Refused}
+use Rattle.writer.specs.Given.{Call}
+use Rattle.writer.specs.Outcome.{newWriter, answerOf}
+use Rattle.writer.specs.Calls.{Lent, WholeCalls, stateBehind, left, fileOf, putIn, lentOn}
+use Rattle.writer.specs.declared.Writer.{Writer}
+use Rattle.promises.specs.Grammar.{Meets}
+use Rattle.promises.specs.Guarded.{lineAt, GuardedIn, changed}
+
+-- ---- a checker: the bytes of a file, and the outcome
+
+-- a file is accepted exactly if it meets the rules
+abbrev pub Demand2 : (List ℕ → Outcome) → Type 0
+Demand2 check = (file : List ℕ) (t : Totals) → check file ≡ Accepted t ↔ Meets file t
+
+-- another byte at a guarded place of an accepted file is refused
+abbrev pub Demand3 : (List ℕ → Outcome) → Type 0
+Demand3 check = (file : List ℕ) (t : Totals) (n p b : ℕ) → check file ≡ Accepted t → GuardedIn file n p → b ≢ place p (lineAt n file)
+    → (r : Refusal) × (check (changed file n p b) ≡ Refused r)
+
+-- ---- a writer: states of any kind, and calls that are lent an output
+
+-- what a call hands back, and the output afterwards
+pub record Done (S : Type 0) : Type 0 where
+  pub state : S
+  pub answer : Answer
+  pub out : List ℕ
+
+-- its states, the one that it starts in, and its calls
+pub record AnyWriter : Type 1 where
+  pub State : Type 0
+  pub new : State
+  pub call : State → Call → List ℕ → Done State
+
+-- calls one after the other, each lent the output that the last one left: their answers, and the output behind them
+module _ (w : AnyWriter) where
+  unfoldable pub answersFrom : w .State → List Call → List ℕ → List Answer
+  answersFrom s [] out = []
+  answersFrom s (c ∷ cs) out = let x = w .call s c out in x .answer ∷ answersFrom (x .state) cs (x .out)
+
+  unfoldable pub outputFrom : w .State → List Call → List ℕ → List ℕ
+  outputFrom s [] out = out
+  outputFrom s (c ∷ cs) out = let x = w .call s c out in outputFrom (x .state) cs (x .out)
+
+-- the answers that the refusals give, each behind the calls before it
+unfoldable pub answersDue : Writer → List Lent → List Answer
+answersDue w [] = []
+answersDue w (l ∷ ls) = answerOf w (l .call) (l .out) ∷ answersDue (stateBehind w l) ls
+
+-- calls of a new writer, the first of which is lent this output
+abbrev pub lentFirst : List Call → List ℕ → List Lent
+lentFirst cs out = lentOn newWriter cs out
+
+-- a call is accepted exactly if none of the refusals applies, else refused by the first; the output is the records of the accepted calls, in
+-- order, and nothing outside is touched; a file that is closed is accepted, with the totals of what was put in
+pub record WritesRight (w : AnyWriter) (cs : List Call) (out : List ℕ) : Type 0 where
+  pub answered : answersFrom w (w .new) cs out ≡ answersDue newWriter (lentFirst cs out)
+  pub written : let file = fileOf (lentFirst cs out) in take (length file) (outputFrom w (w .new) cs out) ≡ file
+  pub kept : let n = length (fileOf (lentFirst cs out)) in drop n (outputFrom w (w .new) cs out) ≡ drop n out
+  pub accepted : left newWriter (lentFirst cs out) .checker .phase ≡ Ended → let n = length (fileOf (lentFirst cs out)) in
+      checkFile (take n (outputFrom w (w .new) cs out)) ≡ Accepted (putIn newWriter (lentFirst cs out))
+
+-- so behind every sequence of calls
+abbrev pub WriterDemand2 : AnyWriter → Type 0
+WriterDemand2 w = (cs : List Call) (out : List ℕ) → WholeCalls (lentFirst cs out) → WritesRight w cs out
+
+-- ---- digit converters: a string, and an output that is lent; the answer, and the output afterwards
+
+-- with room, a barcode whose rules are kept is accepted, and what is written is turned into that barcode again; the same from a line
+pub record ConverterDemand2 (toLine toBarcode : List ℕ → List ℕ → Answer × List ℕ) : Type 0 where
+  pub from-barcode : (bar out other : List ℕ) → AllKept (barcodeRules bar) → lineDigits ≤ length out → barcodeDigits ≤ length other
+      → let there = toLine bar out in let back = toBarcode (take lineDigits (there .1)) other in
+      (there .0 ≡ answer.Accepted) × (back .0 ≡ answer.Accepted) × (take barcodeDigits (back .1) ≡ bar)
+  pub from-line : (line out other : List ℕ) → AllKept (digitLineRules line) → barcodeDigits ≤ length out → lineDigits ≤ length other
+      → let there = toBarcode line out in let back = toLine (take barcodeDigits (there .1)) other in
+      (there .0 ≡ answer.Accepted) × (back .0 ≡ answer.Accepted) × (take lineDigits (back .1) ≡ line)

@@ -1,0 +1,60 @@
+-- Wrong checkers, writers and converters that the paper names, by what they show. Assumes nothing.
+use mathlib.Core.Path.{_≡_}
+use mathlib.Core.List.{List, [], _∷_, _++_, flatten}
+use Prim.Native.Nat.{ℕ}
+use lib.ListN.{length}
+use Rattle.answer.specs.declared.Refusal.{Refusal}
+use Rattle.answer.specs.declared.Answer.{Answer}
+use Rattle.answer.specs.declared.Answer.the-variants.{Refused}
+use Rattle.layout.specs.declared.Direction.{Direction}
+use Rattle.layout.specs.declared.Record.the-variants.{FileHeader}
+use Rattle.checker.specs.Line.{lineBytes, headerBatch}
+use Rattle.checker.specs.declared.totals.Totals.{Totals}
+use Rattle.checker.specs.declared.file.Outcome.{Outcome}
+use Rattle.writer.specs.Given.{Call, pay}
+use Rattle.writer.specs.declared.given.Payment.{Payment}
+use Rattle.promises.specs.Grammar.{Numbered, RightBatch}
+use Rattle.promises.specs.Demands.{AnyWriter, answersFrom, outputFrom}
+
+-- ---- a checker that looks at the first batch only
+
+-- the bytes of a file header and of the batch behind it
+pub record FirstBatch (front : List ℕ) : Type 0 where
+  pub direction : Direction
+  pub bank : ℕ
+  pub header : List ℕ
+  pub batch : List (List ℕ)
+  pub in-it : Totals
+  pub header-right : Numbered FileHeader direction bank headerBatch header
+  pub batch-right : RightBatch direction bank 1 batch in-it
+  pub joined : header ++ flatten batch ≡ front
+
+-- files of one length that agree up to the end of the first batch, and in their last line, get one answer
+abbrev pub FirstBatchOnly : (List ℕ → Outcome) → Type 0
+FirstBatchOnly check = (front later other last : List ℕ) → FirstBatch front → length later ≡ length other → length last ≡ lineBytes
+    → check (front ++ (later ++ last)) ≡ check (front ++ (other ++ last))
+
+-- ---- writers
+
+-- all are refusals
+pub data AllRefused : List Answer → Type 0 where
+  no-answer : AllRefused []
+  and-refused : {r : Refusal} {later : List Answer} → AllRefused later → AllRefused (Refused r ∷ later)
+
+-- one that always refuses
+abbrev pub AlwaysRefuses : AnyWriter → Type 0
+AlwaysRefuses w = (cs : List Call) (out : List ℕ) → AllRefused (answersFrom w (w .new) cs out)
+
+-- one that does nothing: the output is as it was lent
+abbrev pub DoesNothing : AnyWriter → Type 0
+DoesNothing w = (cs : List Call) (out : List ℕ) → outputFrom w (w .new) cs out ≡ out
+
+-- one that writes the first payment and only counts the later ones: a payment behind another leaves the output as that one left it
+abbrev pub FirstPaymentOnly : AnyWriter → Type 0
+FirstPaymentOnly w = (cs : List Call) (p q : Payment) (out : List ℕ)
+    → outputFrom w (w .new) (cs ++ pay p ∷ pay q ∷ []) out ≡ outputFrom w (w .new) (cs ++ pay p ∷ []) out
+
+-- ---- a digit converter that always refuses
+
+abbrev pub RefusesDigits : (List ℕ → List ℕ → Answer × List ℕ) → Type 0
+RefusesDigits convert = (digits out : List ℕ) → (r : Refusal) × (convert digits out .0 ≡ Refused r)

@@ -1,0 +1,84 @@
+// The line that the programs print: `OK` or `NO`, and numbers. What it says is a value, with a
+// contract; that it is printed is output, of which no contract can speak.
+use answer::Answer;
+use answer::Refusal;
+use checker::Outcome;
+use libc::STDOUT_FILENO;
+ghost use mathlib.Core.Path.{_≡_};
+ghost use Rattle.reply.specs.Lines.{refusalLine, answerLine, outcomeLine};
+
+// The most numbers that a line has: batches, records, payments and cents.
+const MOST_NUMBERS: usize = 4;
+
+// Of the numbers the first `count` stand in the line.
+pub struct Line {
+    accepted: bool,
+    numbers: [u64; MOST_NUMBERS],
+    count: usize,
+}
+
+impl Line {
+    // `NO number line place`.
+    pub fn of_refusal(r: Refusal) -> Line
+        ensures { λ l. ⌜ l ≡ refusalLine r ⌝ }
+    {
+        Line {
+            accepted: false,
+            numbers: [r.number as u64, r.line.0, r.place as u64, 0],
+            count: 3,
+        }
+    }
+
+    // `OK`, or the refusal's line.
+    pub fn of_answer(answer: Answer) -> Line
+        ensures { λ l. ⌜ l ≡ answerLine answer ⌝ }
+    {
+        match answer {
+            Answer::Accepted => Line {
+                accepted: true,
+                numbers: [0; MOST_NUMBERS],
+                count: 0,
+            },
+            Answer::Refused(r) => Line::of_refusal(r),
+        }
+    }
+
+    // `OK batches records payments cents`, or the refusal's line.
+    pub fn of_outcome(outcome: Outcome) -> Line
+        ensures { λ l. ⌜ l ≡ outcomeLine outcome ⌝ }
+    {
+        match outcome {
+            Outcome::Accepted(t) => Line {
+                accepted: true,
+                numbers: [t.batches, t.records.0, t.payments, t.cents.0],
+                count: 4,
+            },
+            Outcome::Refused(r) => Line::of_refusal(r),
+        }
+    }
+
+    // Prints it on standard output, with LF.
+    pub fn print(self) {
+        let numbers = self.numbers;
+        let count = self.count;
+        if self.accepted {
+            io::write_all(STDOUT_FILENO, b"OK");
+        } else {
+            io::write_all(STDOUT_FILENO, b"NO");
+        }
+        let mut i = 0;
+        while i < MOST_NUMBERS {
+            if i < count {
+                spaced(numbers[i]);
+            }
+            i += 1;
+        }
+        io::write_all(STDOUT_FILENO, b"\n");
+    }
+}
+
+// Prints a space and a number.
+pub fn spaced(n: u64) {
+    io::write_all(STDOUT_FILENO, b" ");
+    io::print_decimal(STDOUT_FILENO, n);
+}
