@@ -1,4 +1,4 @@
--- The machine: its state, and a step over one line. Assumes nothing.
+-- The machine of the paper: a checker's state, and a step over one line. Assumes nothing.
 use mathlib.Core.Bool.{Bool, cond, _&&_}
 use mathlib.Core.List.{List}
 use Prim.Native.Nat.{ℕ, _+_, _*_, _^_}

@@ -117,7 +117,7 @@ givenRules expected r d rec = byteRule rec ∷ rule 11 segmentPlace expected ∷
 abbrev pub givenOnLine : Bool → Checker → Fields → List Rule
 givenOnLine expected s g = rulesOnLine (lineOf s) (givenRules expected (g .which) (s .dir) (bytesOf s g))
 
--- the machine behind it
+-- the checker behind it
 abbrev pub nextBy : Checker → Fields → Checker
 nextBy s g = next (g .which) s (bytesOf s g)
 

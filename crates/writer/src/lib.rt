@@ -37,7 +37,7 @@ ghost use Rattle.writer.specs.Refusals.{size};
 ghost use Rattle.writer.specs.Outcome.{newWriter, Wrote};
 ghost use Rattle.writer.specs.inner.Steps.{WroteIn, oneRules, paymentRules, MayTry, MayPay};
 
-// The machine's state behind what was written, and the place that was reached in the output.
+// The checker's state behind what was written, and the place that was reached in the output.
 pub struct Writer {
     checker: Checker,
     cursor: usize,
@@ -66,7 +66,7 @@ impl Writer {
         }
     }
 
-    // The machine's state, with what was counted so far.
+    // The checker's state, with what was counted so far.
     pub fn checker(self) -> Checker
         ensures { λ r. ⌜ r ≡ self .checker ⌝ }
     {

@@ -1,4 +1,4 @@
--- A file of the grammar passes through the machine, line by line, with its totals. Assumes nothing.
+-- A file of the grammar passes through the checker, line by line, with its totals. Assumes nothing.
 use mathlib.Core.Path.{_≡_, refl, sym, ap, _∙_}
 use mathlib.Core.Bool.{true}
 use mathlib.Core.List.{List, [], _∷_}

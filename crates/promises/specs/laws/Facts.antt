@@ -1,4 +1,4 @@
--- A line that the machine takes, as facts: it is right by itself, its fields read what the state counts, and the limit holds. Assumes nothing.
+-- A line that the checker takes, as facts: it is right by itself, its fields read what the state counts, and the limit holds. Assumes nothing.
 use mathlib.Core.Path.{_≡_, sym, ap, subst, _∙_}
 use mathlib.Core.List.{List, _∷_, _++_}
 use Prim.Native.Nat.{ℕ, _≤_}

@@ -1,4 +1,4 @@
--- The machine counts what an accepted call puts in. Assumes nothing.
+-- The checker counts what an accepted call puts in. Assumes nothing.
 use mathlib.Core.Path.{_≡_, refl, sym, ap, _∙_}
 use mathlib.Core.Bool.{Bool, true, false, cond}
 use mathlib.Core.List.{List, [], _∷_}

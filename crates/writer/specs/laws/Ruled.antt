@@ -1,4 +1,4 @@
--- A well made record reads what the machine counts; a right one keeps the machine's rules for its kind, within the limit. Assumes nothing.
+-- A well made record reads what the checker counts; a right one keeps the checker's rules for its kind, within the limit. Assumes nothing.
 use mathlib.Core.Path.{_≡_, refl}
 use Prim.Native.Nat.{ℕ}
 use mathlib.Core.List.{List}
@@ -64,7 +64,7 @@ all-read FileTrailer v t =
     let records = reads-at t (stands-at fileRecordsIndex fileRecords (lit≤ tt) refl) refl _ refl in
     (bank t refl, (batch t _ refl, (batches, (records, tt))))
 
--- the numbers that the machine asks
+-- the numbers that the checker asks
 pub numbers-read : {s : Checker} {g : Fields} → WellMade s g → AllRead (asked (g .which) s) (bytesOf s g)
 numbers-read {g = g} t = all-read (g .which) g t
 

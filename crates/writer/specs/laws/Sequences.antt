@@ -32,7 +32,7 @@ use Rattle.writer.specs.laws.Counted.{call-counted, call-cents}
 
 -- ---- one call, whatever its answer
 
--- the machine takes what is written, and counts what is put in, and the sum of the file stays below its limit
+-- the checker takes what is written, and counts what is put in, and the sum of the file stays below its limit
 record Does (w : Writer) (c : Call) (a : Answer) : Type 0 where
   through : Through (w .checker) (linesIf a (linesFor (w .checker) (recordsOf c))) (stateAfter a w (recordsOf c) .checker)
   counts : counted (stateAfter a w (recordsOf c) .checker) ≡ add (counted (w .checker)) (totalsIf a (putBy c))

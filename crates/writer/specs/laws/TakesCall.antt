@@ -1,4 +1,4 @@
--- The machine takes the lines of an accepted call. Assumes nothing.
+-- The checker takes the lines of an accepted call. Assumes nothing.
 use mathlib.Core.Path.{_≡_}
 use mathlib.Core.Bool.{Bool, true, false, cond}
 use mathlib.Core.List.{List, [], _∷_}
@@ -92,7 +92,7 @@ module _ {s : Checker} (k : MayPay s) where
         let z : isOneOf (i .which) (zIn (s .dir)) ≡ true → Follows (s .dir) (s .batch) Paid (i .which) = λ x. rw (expected x .1) (edges.adds-z (expected x .0)) in
         record { is-sound = ok; follows = λ x. follows-moved far (z x); limit = λ x. z-limit last (expected x .1) ok }
 
--- the machine takes what may be tried and is right
+-- the checker takes what may be tried and is right
 taken : {expected : List Record} {s : Checker} {g : Fields} → Right expected s g → MayTry (isOneOf (g .which) expected) (g .which) s → Takes s g
 taken t m = takes t (m .is-sound) (m .follows (t .is-expected)) (m .limit (t .is-expected))
 

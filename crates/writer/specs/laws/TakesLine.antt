@@ -1,4 +1,4 @@
--- The machine takes the line of a right record that is in turn. Assumes nothing.
+-- The checker takes the line of a right record that is in turn. Assumes nothing.
 use mathlib.Core.Path.{_≡_, ap, _∙_}
 use mathlib.Core.Bool.{true}
 use mathlib.Core.List.{List, _∷_}
@@ -61,7 +61,7 @@ module _ {s : Checker} {g : Fields} (w : WellMade s g) (f : Follows (s .dir) (s 
         read = rw same (read-right s (bytesOf s g) f (accepted-kept _ (w .fields)));
       }
 
-  -- the machine answers as the house does
+  -- the checker answers as the house does
   pub steps-by-house : sound s ≡ true → Limit (g .which) s
       → stepOf s (lineFrom (bytesOf s g)) .answer ≡ onLine (lineOf s) (firstBroken (houseRules (g .which) (bytesOf s g)))
   steps-by-house ok few =

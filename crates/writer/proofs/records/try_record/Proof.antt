@@ -1,4 +1,4 @@
--- `writer::records::try_record` meets its contract: its own check, then the machine's step. Assumes nothing.
+-- `writer::records::try_record` meets its contract: its own check, then the checker's step. Assumes nothing.
 use mathlib.Core.Path.{_≡_, ap, _∙_}
 use borrow.Author.Needs.{needs}
 use lib.ListN.{length-map}
