@@ -5,7 +5,7 @@ use super::Stepped;
 use super::order;
 use super::totals::Totals;
 use answer::Answer;
-use answer::LineNo;
+use answer::NO_LINE;
 use answer::Refusal;
 use answer::numbers;
 ghost use mathlib.Core.Path.{_≡_};
@@ -72,7 +72,7 @@ impl Checker {
         if !self.is_sound() {
             return Outcome::Refused(Refusal {
                 number: numbers::OUT_OF_TURN,
-                line: LineNo(0),
+                line: NO_LINE,
                 place: 0,
             });
         }

@@ -12,6 +12,7 @@ use Rattle.digits.specs.Numbers.{numberOf, numeral}
 use Rattle.digits.specs.declared.spelling.Number.{Number}
 use Rattle.digits.specs.declared.spelling.Number.the-variants.{Is, Not}
 use Rattle.answer.specs.Output.{room, written, over}
+use Rattle.answer.specs.Sums.{largest}
 use Rattle.layout.specs.Table.{Field, part, code, fieldsOf, recordBytes, none}
 use Rattle.layout.specs.Kinds.{Held, asNumber, asBytes, asFixed, means, blank}
 use Rattle.layout.specs.Record.{recordRules}
@@ -109,13 +110,9 @@ readRecord r d rec =
 abbrev pub isOf : Record → Fields → Bool
 isOf r v = eqb (code (v .which)) (code r)
 
--- the largest number of 64 bits
-abbrev pub mostNumber : ℕ
-mostNumber = 18446744073709551615
-
 -- what becomes of a record's fields by a name of another record: each number is too wide for its field, and no byte is printable
 abbrev pub spoiled : Record → Fields
-spoiled r = allAs mostNumber 0 r
+spoiled r = allAs largest 0 r
 
 abbrev pub unlessSpoiled : Bool → Record → Fields → Fields
 unlessSpoiled right r v = cond right v (spoiled r)

@@ -59,9 +59,9 @@ module _ (w : AnyWriter) where
   outputFrom s (c ∷ cs) out = let x = w .call s c out in outputFrom (x .state) cs (x .out)
 
 -- the answers that the refusals give, each behind the calls before it
-unfoldable pub answersDue : Writer → List Lent → List Answer
-answersDue w [] = []
-answersDue w (l ∷ ls) = answerOf w (l .call) (l .out) ∷ answersDue (stateBehind w l) ls
+unfoldable pub rightAnswers : Writer → List Lent → List Answer
+rightAnswers w [] = []
+rightAnswers w (l ∷ ls) = answerOf w (l .call) (l .out) ∷ rightAnswers (stateBehind w l) ls
 
 -- calls of a new writer, the first of which is lent this output
 abbrev pub lentFirst : List Call → List ℕ → List Lent
@@ -70,7 +70,7 @@ lentFirst cs out = lentOn newWriter cs out
 -- a call is accepted exactly if none of the refusals applies, else refused by the first; the output is the records of the accepted calls, in
 -- order, and nothing outside is touched; a file that is closed is accepted, with the totals of what was put in
 pub record WritesRight (w : AnyWriter) (cs : List Call) (out : List ℕ) : Type 0 where
-  pub answered : answersFrom w (w .new) cs out ≡ answersDue newWriter (lentFirst cs out)
+  pub answered : answersFrom w (w .new) cs out ≡ rightAnswers newWriter (lentFirst cs out)
   pub written : let file = fileOf (lentFirst cs out) in take (length file) (outputFrom w (w .new) cs out) ≡ file
   pub kept : let n = length (fileOf (lentFirst cs out)) in drop n (outputFrom w (w .new) cs out) ≡ drop n out
   pub accepted : left newWriter (lentFirst cs out) .checker .phase ≡ Ended → let n = length (fileOf (lentFirst cs out)) in

@@ -4,7 +4,7 @@ use mathlib.Core.List.{List, [], _∷_, _++_}
 use Prim.Native.Nat.{ℕ}
 use lib.ListN.{length, drop}
 use Rattle.answer.specs.declared.Answer.the-variants.{Accepted}
-use Rattle.fields.specs.Values.{fieldsIn, ofRecord}
+use Rattle.fields.specs.Values.{fieldsIn}
 use Rattle.checker.specs.Line.{recordIn, lineIs}
 use Rattle.checker.specs.Machine.{start, stepOf}
 use Rattle.checker.specs.File.{linesOf}
@@ -23,7 +23,7 @@ use Rattle.writer.specs.declared.Writer.{Writer}
 
 -- the record that a line is read as, with its fields
 abbrev pub recordRead : Reading → List ℕ → List Fields
-recordRead (Line r) rec = ofRecord r (fieldsIn r rec) ∷ []
+recordRead (Line r) rec = fieldsIn r rec ∷ []
 recordRead Nothing rec = []
 
 -- the records of lines, each read in the state that the lines before it leave

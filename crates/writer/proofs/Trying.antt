@@ -29,7 +29,7 @@ use Rattle.checker.specs.declared.Checker.{Checker}
 use Rattle.checker.specs.declared.Stepped.{Stepped}
 use Rattle.writer.specs.Given.{thirdIn}
 use Rattle.writer.specs.Filling.{filled, bytesOf}
-use Rattle.writer.specs.Refusals.{zIn, givenRules, givenOnLine, nextBy}
+use Rattle.writer.specs.Refusals.{zIn, givenRules, givenOnLine}
 use Rattle.writer.specs.inner.Placed.{allGiven}
 use Rattle.writer.specs.Outcome.{linesFor, behindAll}
 use Rattle.writer.specs.Calls.{Whole}

@@ -1,5 +1,4 @@
 // What the writer fills: the bank of every later record, the numbering, the counts and the sum.
-use answer::RecordCount;
 use checker::Checker;
 use checker::HEADER_BATCH;
 use checker::TRAILER_BATCH;
@@ -42,9 +41,8 @@ fn fill_batch_trailer(m: Checker, v: Fields) -> Fields
     ensures { λ r. ⌜ r ≡ filledBatchTrailer m v ⌝ }
 {
     let current = m.current();
-    let records = RecordCount(current.records.0 + 1);
     fill_in_batch(m, v)
-        .with_records(names::BATCH_TRAILER_RECORDS, records)
+        .with_records(names::BATCH_TRAILER_RECORDS, current.records.and_one())
         .with_cents(names::BATCH_TRAILER_SUM, current.cents)
 }
 
@@ -54,10 +52,9 @@ fn fill_file_trailer(m: Checker, v: Fields) -> Fields
     ensures { λ r. ⌜ r ≡ filledFileTrailer m v ⌝ }
 {
     let closed = m.closed();
-    let records = RecordCount(closed.records.0 + 1);
     fill_line(v, m.bank(), TRAILER_BATCH)
         .with_number(names::FILE_TRAILER_BATCHES, closed.batches)
-        .with_records(names::FILE_TRAILER_RECORDS, records)
+        .with_records(names::FILE_TRAILER_RECORDS, closed.records.and_one())
 }
 
 pub(crate) fn fill(m: Checker, v: Fields) -> Fields

@@ -220,7 +220,7 @@ pub(crate) fn check_sum(m: Checker, p: Payment) -> Answer
     ensures { λ r. ⌜ r ≡ firstBroken (sumRule m p ∷ []) ⌝ }
 {
     let first = p.first;
-    let paid = Cents(m.closed().cents.0 + m.current().cents.0);
+    let paid = m.closed().cents.plus(m.current().cents);
     let fits = paid.fit_a_file(amount_of(first));
     Answer::test(numbers::FILE_SUM, 0, fits)
 }

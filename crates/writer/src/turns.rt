@@ -18,7 +18,7 @@ ghost use Rattle.writer.specs.inner.Steps.{turnOf};
 const BATCH_RECORDS: RecordCount = RecordCount(5);
 
 // The trailers of the batch and of the file.
-const TRAILERS: u64 = 2;
+const TRAILERS: RecordCount = RecordCount(2);
 
 // A payment's records are at most so many, and so a batch's are bounded by its payments.
 const MOST_DETAILS: u64 = 3;
@@ -89,10 +89,8 @@ fn is_held(m: Checker) -> bool
 fn fits_file(m: Checker, more: RecordCount) -> bool
     ensures { λ r. ⌜ r ≡ fitsFile (recordsSoFar m) (more .0) ⌝ }
 {
-    let closed = m.closed();
-    let current = m.current();
-    closed.records.fit_a_file(current.records)
-        && RecordCount(closed.records.0 + current.records.0).fit_a_file(more)
+    let so_far = m.closed().records.plus(m.current().records);
+    so_far.fit_a_file(more)
 }
 
 // What opening a batch asks beyond its turn.
@@ -117,11 +115,7 @@ pub(crate) fn payment_limits(m: Checker, details: RecordCount) -> Answer
         places::SEGMENT,
         m.current().payments < MOST_PAYMENTS,
     );
-    few.and_then(Answer::test(
-        numbers::TOO_LONG,
-        0,
-        fits_file(m, RecordCount(details.0 + TRAILERS)),
-    ))
+    few.and_then(Answer::test(numbers::TOO_LONG, 0, fits_file(m, details.plus(TRAILERS))))
 }
 
 // The answer before any record is looked at.

@@ -1,13 +1,22 @@
 -- Laws of sums that can't wrap. Assumes nothing.
-use mathlib.Core.Path.{_≡_}
-use Prim.Native.Nat.{ℕ, _^_, _≤_, _<_}
+use mathlib.Core.Path.{_≡_, refl}
+use mathlib.Core.Bool.{Bool, true, false}
+use Prim.Native.Nat.{ℕ, _+_, _^_, _<_}
 use native.Mathlib.Omega.{arith}
+use borrow.Author.Tests.{ltb-true, ltb-false, lt-leb}
+use lib.Dec.{ltb, leb}
 use Rattle.answer.specs.Sums.{largest, capped}
 
 -- a sum that fits is the sum
 pub fits : (n : ℕ) → n < 2 ^ 64 → capped n ≡ n
 fits n h = omega arith
 
--- any other is the largest number
-pub stays : (n : ℕ) → 2 ^ 64 ≤ n → capped n ≡ largest
-stays n h = omega arith
+-- a capped sum keeps a limit exactly where the sum does
+pub capped-within : (n more limit : ℕ) → limit < largest → leb (capped n + more) limit ≡ leb (n + more) limit
+capped-within n more limit h = by-test (ltb n (2 ^ 64)) refl
+  where
+    by-test : (b : Bool) → ltb n (2 ^ 64) ≡ b → leb (capped n + more) limit ≡ leb (n + more) limit
+    by-test true e = rw (fits n (ltb-true n (2 ^ 64) e))
+    by-test false e =
+        let g = ltb-false n (2 ^ 64) e in
+        rw (lt-leb (n + more) limit (omega (arith, g)), lt-leb (capped n + more) limit (omega (arith, g)))

@@ -21,7 +21,8 @@ use Rattle.layout.specs.laws.Tiling.{Inside, insides, at}
 use Rattle.layout.specs.declared.Direction.{Direction}
 use Rattle.layout.specs.declared.Record.{Record}
 use Rattle.layout.specs.declared.Record.the-variants.{FileHeader, BatchHeader, SegmentA, SegmentB, SegmentJ, SegmentJ52, SegmentZ, BatchTrailer, FileTrailer}
-use Rattle.fields.specs.Values.{heldAs, recordOf, nth, mostFields, mostNumber, spoiled}
+use Rattle.answer.specs.Sums.{largest}
+use Rattle.fields.specs.Values.{heldAs, recordOf, nth, mostFields, spoiled}
 use Rattle.fields.specs.laws.Parts.{record-length, holds, part-width}
 use Rattle.fields.specs.laws.Kept.{back-accepted, rules-at}
 use Rattle.fields.specs.laws.TooWide.{too-wide}
@@ -42,7 +43,7 @@ ruinedAt FileTrailer = 6
 -- no byte is printable, and that field's number is too wide
 pub record Ruined (r : Record) (v : Fields) : Type 0 where
   pub text : v .text ≡ replicate recordBytes 0
-  pub number : nth (ruinedAt r) v ≡ mostNumber
+  pub number : nth (ruinedAt r) v ≡ largest
 
 -- spoiled fields are so
 pub spoiled-ruined : (r : Record) → Ruined r (spoiled r)

@@ -96,7 +96,7 @@ gives-none = record { rights = none; lines = refl; many = refl; read = λ ls. re
 
 gives-more : {expected : List (List Record)} {r : Record} {s t : Checker} {l : List ℕ} {gs : List Fields} {done ls : List (List ℕ)} → Goes r s l ls
     → isOneOf r (expectedNow expected) ≡ true → Gives (drop 1 expected) (next r s (recordIn l)) gs done t → Gives expected s (back r l ∷ gs) (l ∷ done) t
-unfolding linesFor behindAll recordsRead
+unfolding linesFor behindAll recordsRead fieldsIn
 gives-more {expected} {r} {s} {t} {l} {gs} {done} g e y =
     let same = same-bytes g in
     let x : Gives (drop 1 expected) (nextBy s (back r l)) gs done t = subst⁻¹ (λ (u : Checker). Gives (drop 1 expected) u gs done t) (ap (next r s) same) y in

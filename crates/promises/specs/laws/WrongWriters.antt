@@ -36,7 +36,7 @@ use Rattle.writer.specs.declared.given.Payment.{Payment}
 use Rattle.writer.specs.declared.Writer.{Writer}
 use Rattle.writer.specs.declared.Written.{Written}
 use Rattle.promises.specs.Guarded.{lineAt}
-use Rattle.promises.specs.Demands.{AnyWriter, answersFrom, outputFrom, answersDue, lentFirst, WriterDemand2}
+use Rattle.promises.specs.Demands.{AnyWriter, answersFrom, outputFrom, rightAnswers, lentFirst, WriterDemand2}
 use Rattle.promises.specs.WrongOnes.{AllRefused, AlwaysRefuses, DoesNothing, FirstPaymentOnly}
 use Rattle.promises.specs.laws.AcceptedFiles.{creditFile}
 
@@ -59,8 +59,8 @@ module _ (call : Writer → Call → List ℕ → Written × List ℕ)
   output-is : (w : Writer) (c : Call) (out : List ℕ) → AllWhole (recordsOf c) → call w c out .1 ≡ memoryBehind w (lent c out)
   output-is w c out h = let k = wrote w c out h in k .memory ∙ ap (λ (a : Answer). outputAfter a w (recordsOf c) out) (k .answered)
 
-  its-answers : (w : Writer) (cs : List Call) (out : List ℕ) → WholeCalls (lentOn w cs out) → answersFrom (byCalls call) w cs out ≡ answersDue w (lentOn w cs out)
-  unfolding answersFrom answersDue lentOn
+  its-answers : (w : Writer) (cs : List Call) (out : List ℕ) → WholeCalls (lentOn w cs out) → answersFrom (byCalls call) w cs out ≡ rightAnswers w (lentOn w cs out)
+  unfolding answersFrom rightAnswers lentOn
   its-answers w [] out no-call = refl
   its-answers w (c ∷ cs) out (and-call h hs) =
       rw (wrote w c out h .answered, state-is w c out h, output-is w c out h)
@@ -139,7 +139,7 @@ paid-twice-whole out =
 -- the file is opened, and its first byte is of the header's bank; a file with one payment has four lines, one with two has six, and the fifth
 -- begins with the bank
 record Computed : Type 0 where
-  answers : answersDue newWriter (lentFirst opened (fresh 1)) ≡ Accepted ∷ []
+  answers : rightAnswers newWriter (lentFirst opened (fresh 1)) ≡ Accepted ∷ []
   opened-long : length (fileOf (lentFirst opened (fresh 1))) ≡ lineBytes
   opened-first : getD (fileOf (lentFirst opened (fresh 1))) 0 0 ≡ digitByte 0
   paid-long : length (fileOf (lentFirst paid (fresh 6))) ≡ 4 * lineBytes
@@ -147,7 +147,7 @@ record Computed : Type 0 where
   twice-fifth : getD (fileOf (lentFirst paidTwice (fresh 6))) (4 * lineBytes) 0 ≡ digitByte 0
 
 computed : Computed
-unfolding flatten answersDue before indexOf written linesFor behindAll lentOn answerOf callRules held placedRules givenRules fieldsIn numbersIn joined recordOf filled numeral lastDigits firstBroken leading weighed numberOf exists dateFits timeFits same batchOf rulesOf clean fieldsOf boletoRules sound add
+unfolding flatten rightAnswers before indexOf written linesFor behindAll lentOn answerOf callRules held placedRules givenRules fieldsIn numbersIn joined recordOf filled numeral lastDigits firstBroken leading weighed numberOf exists dateFits timeFits same batchOf rulesOf clean fieldsOf boletoRules sound add
 computed = record { answers = refl; opened-long = refl; opened-first = refl; paid-long = refl; twice-long = refl; twice-fifth = refl }
 
 -- ---- the wrong writers

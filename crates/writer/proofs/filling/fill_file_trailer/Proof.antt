@@ -3,6 +3,7 @@ use mathlib.Core.Path.{_≡_, ap, _∙_}
 use Prim.Native.Nat.{_+_}
 use native.Mathlib.Omega.{arith}
 use borrow.Author.Needs.{needs}
+use Rattle.answer.specs.laws.Sums.{fits}
 use Rattle.layout.specs.Table.{fieldsOf}
 use Rattle.layout.specs.Names.{before, indexOf}
 use Rattle.layout.specs.declared.Record.{Record}
@@ -14,24 +15,23 @@ use Rattle.writer.specs.Filling.{fileBatchesIndex, fileRecordsIndex, fil
 use Rattle.writer.proofs.filling.fill_file_trailer.Statement.{statement}
 use Rattle.writer.proofs.filling.fill_file_trailer.Tie as tie
 
-add-fill-line : tie.Need-add-fill-line
-add-fill-line c = let b = c .before .before .pre .0 in rw (c .before .closed .ensures) (omega arith)
-
 returns : tie.Need-returns
 unfolding indexOf before fieldsOf
 returns c =
     let start = c .before .before .before .before .before .before in
     let a = start .args in
+    let bound = start .pre .0 in
+    let many : c .before .and-one .result .0 ≡ a .m .closed .records .0 + 1 = c .before .and-one .ensures ∙ rw (c .before .before .before .before .before .closed .ensures) (fits _ (omega arith)) in
     let v = filledLine FileTrailer (a .m .bank) trailerBatch (a .v) in
-    let in-line : c .before .before .fill-line .result ≡ v
-    = c .before .before .fill-line .ensures ∙ rw (c .before .before .before .bank .ensures) (ap (λ (r : Record). filledLine r (a .m .bank) trailerBatch (a .v)) (start .pre .1)) in
-    let one : c .before .with-number .result ≡ setNth fileBatchesIndex (a .m .closed .batches) v
-    = c .before .with-number .ensures
+    let in-line : c .before .before .before .fill-line .result ≡ v
+    = c .before .before .before .fill-line .ensures ∙ rw (c .before .before .before .before .bank .ensures) (ap (λ (r : Record). filledLine r (a .m .bank) trailerBatch (a .v)) (start .pre .1)) in
+    let one : c .before .before .with-number .result ≡ setNth fileBatchesIndex (a .m .closed .batches) v
+    = c .before .before .with-number .ensures
     ∙ rw (in-line, c .before .before .before .before .before .closed .ensures) (by-name FileTrailer v (start .pre .1) fileBatchesIndex (a .m .closed .batches)) in
     c .with-records .ensures
-    ∙ rw (one, c .before .before .before .before .before .closed .ensures) (by-name FileTrailer (setNth fileBatchesIndex (a .m .closed .batches) v) (start .pre .1) fileRecordsIndex (a .m .closed .records .0 + 1))
+    ∙ rw (one, many) (by-name FileTrailer (setNth fileBatchesIndex (a .m .closed .batches) v) (start .pre .1) fileRecordsIndex (a .m .closed .records .0 + 1))
 
 pub fill-file-trailer-spec : {M : Type 1} → statement M
 fill-file-trailer-spec =
     tie.close
-    (tie.spec (λ c κs. search needs) add-fill-line (λ c κs. search needs) (λ c κs. search needs) (λ c κs. search needs) (λ c κs. search needs) returns)
+    (tie.spec (λ c κs. search needs) (λ c κs. search needs) (λ c κs. search needs) (λ c κs. search needs) (λ c κs. search needs) (λ c κs. search needs) returns)

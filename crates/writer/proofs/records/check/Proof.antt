@@ -1,5 +1,4 @@
 -- `writer::records::check` meets its contract. Assumes nothing.
-use mathlib.Core.Path.{_∙_}
 use borrow.Author.Needs.{needs}
 use Rattle.writer.proofs.records.check.Statement.{statement}
 use Rattle.writer.proofs.records.check.Tie as tie
