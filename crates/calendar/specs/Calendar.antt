@@ -27,9 +27,12 @@ lastYear = 2199
 abbrev pub leap : ℕ → Bool
 leap y = (eqb (y % 4) 0 && not (eqb (y % 100) 0)) || eqb (y % 400) 0
 
+abbrev pub february : ℕ → ℕ
+february y = cond (leap y) 29 28
+
 -- the days of each month of a year
 abbrev pub months : ℕ → List ℕ
-months y = 31 ∷ cond (leap y) 29 28 ∷ 31 ∷ 30 ∷ 31 ∷ 30 ∷ 31 ∷ 31 ∷ 30 ∷ 31 ∷ 30 ∷ 31 ∷ []
+months y = 31 ∷ february y ∷ 31 ∷ 30 ∷ 31 ∷ 30 ∷ 31 ∷ 31 ∷ 30 ∷ 31 ∷ 30 ∷ 31 ∷ []
 
 unfoldable pub exists : Date → Bool
 exists d =

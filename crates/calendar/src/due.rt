@@ -1,8 +1,10 @@
-// Day numbers, counted year by year, and the due factor.
+// Day numbers, by closed arithmetic, and the due factor.
+use super::AUGUST;
 use super::Date;
+use super::FEBRUARY;
 use super::FIRST_YEAR;
-use super::days_in;
-use super::is_leap;
+use super::SHORT_MONTH;
+use super::february_days;
 ghost use mathlib.Core.Path.{_≡_};
 ghost use Prim.Native.Nat.{_-_, _≤_};
 ghost use lib.ListN.{take};
@@ -12,32 +14,36 @@ ghost use Rattle.calendar.specs.Due.{total, daysOfYears, dayNumber, fact
 // The day number of 7 October 1997, from which the factor counts.
 const FACTOR_BASE: u64 = 280;
 
-// The days of the years before this one.
+const COMMON_YEAR: u64 = 365;
+
+// The leap years among the years 1 to 1996.
+const LEAP_YEARS_BEFORE: u64 = 484;
+
+// The days of the years before this one: a leap year is every fourth, but no century unless it is a
+// fourth one.
 fn days_before_year(year: u64) -> u64
     requires { ⌜ (firstYear ≤ year) × (year ≤ lastYear) ⌝ }
     ensures { λ r. ⌜ r ≡ daysOfYears (year - firstYear) ⌝ }
 {
-    let mut days = 0;
-    let mut y = FIRST_YEAR;
-    while y < year {
-        days += if is_leap(y) { 366 } else { 365 };
-        y += 1;
-    }
-    days
+    let last = year - 1;
+    let leap_years = last / 4 - last / 100 + last / 400;
+    COMMON_YEAR * (year - FIRST_YEAR) + (leap_years - LEAP_YEARS_BEFORE)
 }
 
-// The days of the year's months before this one.
+// The days of the year's months before this one: those that 31 and 30 days by turns give, less what
+// February lacks.
 fn days_before_month(month: u64, year: u64) -> u64
     requires { ⌜ (1 ≤ month) × (month ≤ 12) ⌝ }
     ensures { λ r. ⌜ r ≡ total (take (month - 1) (months year)) ⌝ }
 {
-    let mut days = 0;
-    let mut m = 1;
-    while m < month {
-        days += days_in(m, year);
-        m += 1;
+    let before = month - 1;
+    // January is long and then every second month, and anew from August
+    let long_months = (before + before / AUGUST + 1) / 2;
+    let by_turns = SHORT_MONTH * before + long_months;
+    if before < FEBRUARY {
+        return by_turns;
     }
-    days
+    by_turns - (SHORT_MONTH - february_days(year))
 }
 
 impl Date {

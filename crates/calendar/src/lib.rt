@@ -4,7 +4,7 @@ mod due;
 ghost use mathlib.Core.Path.{_≡_};
 ghost use Prim.Native.Nat.{_-_, _≤_};
 ghost use lib.ListN.{getD};
-ghost use Rattle.calendar.specs.Calendar.{dateOf, leap, months, exists, isTime, dateFits, timeFits};
+ghost use Rattle.calendar.specs.Calendar.{dateOf, leap, february, months, exists, isTime, dateFits, timeFits};
 
 pub struct Date {
     pub day: u64,
@@ -18,6 +18,13 @@ const LAST_YEAR: u64 = 2199;
 
 const MONTHS: u64 = 12;
 
+const FEBRUARY: u64 = 2;
+
+const AUGUST: u64 = 8;
+
+// The days of a month that is not long.
+const SHORT_MONTH: u64 = 30;
+
 const DATE_DIGITS: usize = 8;
 
 const TIME_DIGITS: usize = 6;
@@ -29,18 +36,21 @@ fn is_leap(year: u64) -> bool
     ((year % 4 == 0) & (year % 100 != 0)) | (year % 400 == 0)
 }
 
+fn february_days(year: u64) -> u64
+    ensures { λ r. ⌜ r ≡ february year ⌝ }
+{
+    if is_leap(year) { 29 } else { 28 }
+}
+
 // From January 31 and 30 days take turns, and start anew with August; only February differs.
 fn days_in(month: u64, year: u64) -> u64
     requires { ⌜ (1 ≤ month) × (month ≤ 12) ⌝ }
     ensures { λ r. ⌜ r ≡ getD (months year) (month - 1) 0 ⌝ }
 {
-    if month == 2 {
-        if is_leap(year) {
-            return 29;
-        }
-        return 28;
+    if month == FEBRUARY {
+        return february_days(year);
     }
-    30 + (month + month / 8) % 2
+    SHORT_MONTH + (month + month / AUGUST) % 2
 }
 
 impl Date {

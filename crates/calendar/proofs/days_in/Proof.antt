@@ -1,21 +1,16 @@
 -- `calendar::days_in` meets its contract. Assumes nothing.
-use mathlib.Core.Path.{sym, _∙_}
 use borrow.Author.Needs.{needs}
-use Rattle.calendar.proofs.Spans.{turns}
+use Rattle.calendar.specs.laws.Days.{turns}
 use Rattle.calendar.proofs.days_in.Statement.{statement}
 use Rattle.calendar.proofs.days_in.Tie as tie
 
 returns : tie.Need-returns
-returns c = rw (c .before .before .if1 .taken, sym (c .before .is-leap .ensures) ∙ c .if2 .taken)
+returns c = rw (c .before .if1 .taken) (c .february-days .ensures)
 
 returns-2 : tie.Need-returns-2
-returns-2 c = rw (c .before .before .if1 .taken, sym (c .before .is-leap .ensures) ∙ c .if2 .left)
-
-returns-3 : tie.Need-returns-3
-returns-3 c =
+returns-2 c =
     let s = c .before in
     turns (s .args .year) (s .args .month) (s .pre .0) (s .pre .1) (c .if1 .left)
 
 pub days-in-spec : {M : Type 1} → statement M
-days-in-spec =
-    tie.close (tie.spec (λ c κs. search needs) returns returns-2 (λ c. search needs) (λ c. search needs) returns-3)
+days-in-spec = tie.close (tie.spec (λ c κs. search needs) returns (λ c. search needs) (λ c. search needs) returns-2)

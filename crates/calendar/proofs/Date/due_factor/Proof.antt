@@ -2,7 +2,7 @@
 use native.Mathlib.Omega.{arith}
 use borrow.Author.Needs.{needs}
 use Rattle.calendar.specs.Due.{factorOf}
-use Rattle.calendar.proofs.Spans.{base-day}
+use Rattle.calendar.proofs.Existing.{base-day}
 use Rattle.calendar.proofs.Date.due_factor.Statement.{statement}
 use Rattle.calendar.proofs.Date.due_factor.Tie as tie
 
