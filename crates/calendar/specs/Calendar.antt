@@ -27,6 +27,7 @@ lastYear = 2199
 abbrev pub leap : ℕ → Bool
 leap y = (eqb (y % 4) 0 && not (eqb (y % 100) 0)) || eqb (y % 400) 0
 
+-- the days of a year's February
 abbrev pub february : ℕ → ℕ
 february y = cond (leap y) 29 28
 

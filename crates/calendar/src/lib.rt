@@ -22,7 +22,7 @@ const FEBRUARY: u64 = 2;
 
 const AUGUST: u64 = 8;
 
-// The days of a month that is not long.
+// The days of a month that is neither long nor February.
 const SHORT_MONTH: u64 = 30;
 
 const DATE_DIGITS: usize = 8;

@@ -86,21 +86,12 @@ in-year y k h = leb→le _ _ (every-year inYear year-test y k h)
 abbrev counted : Bool → ℕ
 counted b = cond b 1 0
 
-counted-small : (b : Bool) → counted b ≤ 1
-counted-small true = omega arith
-counted-small false = omega arith
-
 year-days : (y : ℕ) → total (months y) ≡ 365 + counted (leap y)
 year-days y = by-leap (leap y) refl
   where
     by-leap : (b : Bool) → leap y ≡ b → total (months y) ≡ 365 + counted b
     by-leap true e = rw e
     by-leap false e = rw e
-
-pub years-small : (n : ℕ) → daysOfYears n ≤ 366 * n
-unfolding daysOfYears
-years-small zero = omega arith
-years-small (suc n) = omega (arith, years-small n, year-days (firstYear + n), counted-small (leap (firstYear + n)))
 
 -- up to one number more there is one multiple of d more, where it is one
 rest-turn : (d r : ℕ) → 0 < d → (suc r ≡ d) ⊎ (suc r < d) → suc r / d ≡ counted (eqb (suc r % d) 0)

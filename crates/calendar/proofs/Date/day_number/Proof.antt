@@ -7,7 +7,7 @@ use borrow.Author.Needs.{needs}
 use borrow.Author.Tests.{not-true, not-false}
 use Rattle.calendar.specs.Calendar.{firstYear, exists}
 use Rattle.calendar.specs.Due.{dayNumber}
-use Rattle.calendar.specs.laws.Days.{in-year, years-small}
+use Rattle.calendar.specs.laws.Days.{in-year, years-closed}
 use Rattle.calendar.proofs.Existing.{day-in-month}
 use Rattle.calendar.proofs.Date.day_number.Statement.{statement}
 use Rattle.calendar.proofs.Date.day_number.Tie as tie
@@ -25,12 +25,12 @@ days-before-year-requires c κs = day-in-month _ (exists-here c) .0 .year
 days-before-month-requires : tie.Need-days-before-month-requires
 days-before-month-requires c κs = day-in-month _ (exists-here (c .before)) .0 .month
 
--- fewer days than the leap years to the last
+-- the closed count of the years keeps the sum small
 sum-fits : (c : tie.After-days-before-month) → c .before .days-before-year .result + c .days-before-month .result + c .before .before .before .before .args .self .day < 2 ^ 64
 sum-fits c =
     let s = c .before .before .before .before .args .self in
     let d = day-in-month s (exists-here (c .before .before)) in
-    omega (arith, in-year (s .year) (s .month - 1) (omega arith), years-small (s .year - firstYear))
+    omega (arith, in-year (s .year) (s .month - 1) (omega arith), years-closed (s .year - firstYear))
 
 returns-2 : tie.Need-returns-2
 unfolding dayNumber
