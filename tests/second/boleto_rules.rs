@@ -1,8 +1,8 @@
 //! The rules that bind the fields of a J record to each other: the barcode's
 //! own check, and the house rules of document 01.
 
-use crate::calendar::Calendar;
 use crate::digit_strings::DigitRules;
+use crate::due_factors::{DueFactors, DAYS_OF_A_ROUND};
 use crate::faults::Fault;
 use crate::places::{
     AMOUNT_OF_J, BARCODE, BARCODE_CENTS, BARCODE_CHECK, DISCOUNT, DUE, FACTOR, FINE, NOMINAL,
@@ -10,7 +10,7 @@ use crate::places::{
 use crate::record_rules::Refusal;
 
 const WRONG_CHECK: u32 = 16;
-const WRONG_DUE_DATE: u32 = 17;
+pub const WRONG_DUE_DATE: u32 = 17;
 const WRONG_CENTS: u32 = 18;
 const WRONG_AMOUNT: u32 = 19;
 
@@ -37,7 +37,7 @@ pub const BOLETO_RULES: [BoletoRule; 4] = [
 pub struct BoletoRules {
     fault: Option<Fault>,
     digits: DigitRules,
-    calendar: Calendar,
+    factors: DueFactors,
 }
 
 impl BoletoRules {
@@ -45,7 +45,7 @@ impl BoletoRules {
         BoletoRules {
             fault,
             digits: DigitRules::new(fault),
-            calendar: Calendar::new(fault),
+            factors: DueFactors::new(fault),
         }
     }
 
@@ -71,7 +71,16 @@ impl BoletoRules {
     fn due_date_is_right(&self, line: &[u8]) -> bool {
         let factor = FACTOR.number(line);
         let not_counted = self.has(Fault::SmallFactorsNotCounted) && factor < FIRST_LONG_FACTOR;
-        factor == 0 || not_counted || self.calendar.date_of_factor(factor as u32) == DUE.of(line)
+        factor == 0 || not_counted || self.is_factor_of(DUE.of(line), factor)
+    }
+
+    fn is_factor_of(&self, due: &[u8], factor: u64) -> bool {
+        let own = self.factors.of(due).map(u64::from);
+        if self.has(Fault::FactorsComparedModulo9000) {
+            let round = u64::from(DAYS_OF_A_ROUND);
+            return own.map(|own| own % round) == Some(factor % round);
+        }
+        own == Some(factor)
     }
 
     fn cents_are_right(&self, line: &[u8]) -> bool {

@@ -2,14 +2,14 @@
 
 use crate::faults::Fault;
 
-/// Due factors count days after this one: day, month and year.
-const DAY_OF_FACTOR_ZERO: (u32, u32, u32) = (7, 10, 1997);
 pub const FIRST_YEAR: u32 = 1997;
 pub const LAST_YEAR: u32 = 2199;
+pub const MONTHS: u32 = 12;
 const LAST_HOUR: u32 = 23;
 const LAST_MINUTE: u32 = 59;
 const LAST_SECOND: u32 = 59;
 const LONG_FEBRUARY: u32 = 29;
+const DAYS_OF_A_SHORT_YEAR: u32 = 365;
 
 pub struct Calendar {
     fault: Option<Fault>,
@@ -30,19 +30,27 @@ impl Calendar {
 
     /// DDMMAAAA.
     pub fn has_date(&self, content: &[u8]) -> bool {
-        let parts = (
-            number(&content[..2]),
-            number(&content[2..4]),
-            number(&content[4..]),
-        );
+        self.date(content).is_some()
+    }
+
+    /// Day, month and year of a date that exists.
+    fn date(&self, content: &[u8]) -> Option<(u32, u32, u32)> {
+        let day = number(&content[..2])?;
+        let month = number(&content[2..4])?;
+        let year = number(&content[4..])?;
         let last_year = LAST_YEAR + u32::from(self.has(Fault::Year2200Allowed));
-        match parts {
-            (Some(day), Some(month), Some(year)) => {
-                (FIRST_YEAR..=last_year).contains(&year)
-                    && (1..=self.days_in(month, year)).contains(&day)
-            }
-            _ => false,
-        }
+        let exists = (FIRST_YEAR..=last_year).contains(&year)
+            && (1..=self.days_in(month, year)).contains(&day);
+        exists.then_some((day, month, year))
+    }
+
+    /// Which of all dates this one is, the first being 1; nothing for a date
+    /// that does not exist.
+    pub fn ordinal(&self, content: &[u8]) -> Option<u32> {
+        let (day, month, year) = self.date(content)?;
+        let years: u32 = (FIRST_YEAR..year).map(|y| self.days_in_year(y)).sum();
+        let months: u32 = (1..month).map(|m| self.days_in(m, year)).sum();
+        Some(years + months + day)
     }
 
     /// HHMMSS.
@@ -67,24 +75,13 @@ impl Calendar {
             2 if self.is_leap(year) => LONG_FEBRUARY,
             2 => LONG_FEBRUARY - 1,
             4 | 6 | 9 | 11 => 30,
-            1..=12 => 31,
+            1..=MONTHS => 31,
             _ => 0,
         }
     }
 
-    /// DDMMAAAA of the day that a due factor other than 0 means.
-    pub fn date_of_factor(&self, factor: u32) -> Vec<u8> {
-        let (mut day, mut month, mut year) = DAY_OF_FACTOR_ZERO;
-        day += factor;
-        while day > self.days_in(month, year) {
-            day -= self.days_in(month, year);
-            month += 1;
-            if month > 12 {
-                month = 1;
-                year += 1;
-            }
-        }
-        format!("{day:02}{month:02}{year:04}").into_bytes()
+    fn days_in_year(&self, year: u32) -> u32 {
+        DAYS_OF_A_SHORT_YEAR + u32::from(self.is_leap(year))
     }
 
     fn is_leap(&self, year: u32) -> bool {

@@ -18,7 +18,8 @@ use crate::record_table::RECORD_BYTES;
 use crate::records::Values;
 use crate::script_cases::ScriptCases;
 use crate::writer_script;
-use crate::{large_file_cases, line_call_cases, plain_files, record_cases, record_write_cases};
+use crate::{due_cases, large_file_cases, line_call_cases, plain_files};
+use crate::{record_cases, record_write_cases};
 
 const BARCODE_SEED: u64 = 1;
 const DIGIT_STRING_SEED: u64 = 2;
@@ -136,9 +137,11 @@ fn stream_of_pairs_of_flaws() -> Stream {
     Stream::shuffled(requests, &mut random)
 }
 
+/// And of the other requests about files that are made once.
 fn stream_of_large_files() -> Stream {
     let mut random = Random::with_seed(LARGE_FILE_SEED);
     let mut requests = large_file_cases::requests(&mut random);
+    requests.extend(due_cases::requests(&mut random));
     requests.extend(file_cases::unlikely_files(&mut random));
     requests.extend(line_call_cases::unlikely_calls(&mut random));
     Stream::shuffled(requests, &mut random)

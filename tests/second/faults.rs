@@ -73,6 +73,14 @@ pub enum Fault {
     ZCountedAsPayment,
     DiscountAdded,
     SmallFactorsNotCounted,
+    DaysNeverFolded,
+    DaysFoldedModulo10000,
+    DaysFoldedInto0To8999,
+    DaysFoldedOnce,
+    RoundsBeginAtOne,
+    FactorsComparedModulo9000,
+    OldDatesWithoutFactor,
+    EarlyDaysWrap,
     CentsAgainstTenDigits,
     NotLookedAtBehindTheEnd,
     LinesCutAtLineFeeds,
@@ -162,7 +170,7 @@ const NAMED_FAULTS: [(&str, Fault); 38] = [
 ];
 
 /// Mistakes about the lines of files.
-const NAMED_FILE_FAULTS: [(&str, Fault); 36] = [
+const NAMED_FILE_FAULTS: [(&str, Fault); 44] = [
     ("length-before-end", Fault::LengthBeforeEnd),
     ("line-end-before-bytes", Fault::LineEndBeforeBytes),
     ("batch-limit-behind-bank", Fault::BatchLimitBehindBank),
@@ -204,6 +212,17 @@ const NAMED_FILE_FAULTS: [(&str, Fault); 36] = [
     ("z-counted-as-payment", Fault::ZCountedAsPayment),
     ("discount-added", Fault::DiscountAdded),
     ("small-factors-not-counted", Fault::SmallFactorsNotCounted),
+    ("days-never-folded", Fault::DaysNeverFolded),
+    ("days-folded-modulo-10000", Fault::DaysFoldedModulo10000),
+    ("days-folded-into-0-to-8999", Fault::DaysFoldedInto0To8999),
+    ("days-folded-once", Fault::DaysFoldedOnce),
+    ("rounds-begin-at-one", Fault::RoundsBeginAtOne),
+    (
+        "factors-compared-modulo-9000",
+        Fault::FactorsComparedModulo9000,
+    ),
+    ("old-dates-without-factor", Fault::OldDatesWithoutFactor),
+    ("early-days-wrap", Fault::EarlyDaysWrap),
     ("cents-against-ten-digits", Fault::CentsAgainstTenDigits),
     (
         "not-looked-at-behind-the-end",

@@ -1,7 +1,7 @@
 //! Claims of document 01 about files, checked over the second program's own
 //! machine: where one fails, the second program is wrong.
 
-use crate::calendar::Calendar;
+use crate::due_claims;
 use crate::file_reader::check_file;
 use crate::file_rules::LINE_BYTES;
 use crate::good_files::{any_file, MadeFile};
@@ -17,17 +17,11 @@ const FILES: usize = 60;
 const EXAMPLE: &str = "OK 1 6 1 10000";
 const EMPTY: &str = "NO 2 1 0";
 const SHORT: &str = "NO 1 1 0";
-/// Factor and the day it means.
-const FACTORS: [(u32, &[u8]); 4] = [
-    (1, b"08101997"),
-    (1_000, b"03072000"),
-    (7_269, b"01092017"),
-    (9_999, b"21022025"),
-];
 
 /// How many changed bytes at guarded places of files were refused.
 pub fn check() -> Result<usize, String> {
     examples()?;
+    due_claims::check()?;
     let mut random = Random::with_seed(SEED);
     let mut refused = 0;
     for _ in 0..FILES {
@@ -46,10 +40,6 @@ fn examples() -> Result<(), String> {
         (&example[..LINE_BYTES - 1], SHORT),
     ] {
         demand(check_file(bytes, None).to_string() == said, said)?;
-    }
-    let calendar = Calendar::of_the_paper();
-    for (factor, day) in FACTORS {
-        demand(calendar.date_of_factor(factor) == day, "day of a factor")?;
     }
     Ok(())
 }

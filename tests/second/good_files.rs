@@ -1,7 +1,8 @@
 //! Good files made at random, of every shape that document 01 allows.
 
-use crate::calendar::Calendar;
 use crate::digit_strings::DigitRules;
+use crate::due_dates::any_due_date;
+use crate::due_factors::DueFactors;
 use crate::file_rules::CENTS_LIMIT;
 use crate::file_state::{BatchKind, BATCH_KINDS};
 use crate::good_records::good_record;
@@ -18,8 +19,7 @@ pub const LARGEST_PAYMENTS: u64 = 1_000;
 pub const MISSING_CENTS: u64 = CENTS_LIMIT as u64 - LARGEST_PAYMENTS * LARGEST_AMOUNT;
 /// The barcode has ten digits for the cents.
 pub const LARGEST_BARCODE_CENTS: u64 = 9_999_999_999;
-const LARGEST_FACTOR: usize = 9_999;
-const FACTORS_TO_TRY: [u64; 9] = [0, 0, 1, 2, 500, 999, 1_000, 7_269, 9_999];
+const NO_FACTOR_ONCE_IN: usize = 5;
 
 const MOST_BATCHES: usize = 3;
 const MOST_PAYMENTS: usize = 3;
@@ -199,23 +199,22 @@ fn make_boleto(random: &mut Random, record: &mut [u8]) {
 }
 
 fn make_barcode(random: &mut Random, record: &mut [u8], nominal: u64) {
-    let factor = any_factor(random);
-    FACTOR.put_number(record, u128::from(factor));
-    if factor != 0 {
-        let due = Calendar::of_the_paper().date_of_factor(factor as u32);
-        DUE.put(record, &due);
-    }
+    let due = any_due_date(random);
+    DUE.put(record, &due);
+    let factor = match random.below(NO_FACTOR_ONCE_IN) {
+        0 => None,
+        _ => DueFactors::of_the_paper().of(&due),
+    };
     let fits = nominal <= LARGEST_BARCODE_CENTS;
     let cents = if fits && random.coin() { nominal } else { 0 };
     BARCODE_CENTS.put_number(record, u128::from(cents));
-    put_general_check(record);
+    put_factor(record, factor.unwrap_or(0));
 }
 
-pub fn any_factor(random: &mut Random) -> u64 {
-    if random.coin() {
-        return random.pick(&FACTORS_TO_TRY);
-    }
-    random.between(1, LARGEST_FACTOR) as u64
+/// The barcode's check is made right for it.
+pub fn put_factor(record: &mut [u8], factor: u32) {
+    FACTOR.put_number(record, u128::from(factor));
+    put_general_check(record);
 }
 
 /// Makes the general check right for the other digits of the barcode.

@@ -1,7 +1,7 @@
 //! Good records made at random: every field is filled as the table wants it,
 //! with ordinary contents as often as with those at the edge of what it allows.
 
-use crate::calendar::{Calendar, FIRST_YEAR, LAST_YEAR};
+use crate::calendar::{Calendar, FIRST_YEAR, LAST_YEAR, MONTHS};
 use crate::digit_strings::{CURRENCY, CURRENCY_PLACE};
 use crate::random::Random;
 use crate::record_kinds::{Direction, Subject};
@@ -121,7 +121,7 @@ fn date(random: &mut Random) -> String {
     } else {
         random.between(FIRST_YEAR as usize, LAST_YEAR as usize) as u32
     };
-    let month = random.between(1, 12) as u32;
+    let month = random.between(1, MONTHS as usize) as u32;
     let last_day = Calendar::of_the_paper().days_in(month, year);
     let day = random.pick(&[1, 2, 15, last_day]);
     format!("{day:02}{month:02}{year:04}")

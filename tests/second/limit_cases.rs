@@ -6,9 +6,9 @@ use crate::file_rules::LINE_BYTES;
 use crate::file_state::BatchKind;
 use crate::good_files::{LARGEST_AMOUNT, LARGEST_PAYMENTS, MISSING_CENTS};
 use crate::limit_files::{add_batch, add_payments, batches, changed_payment, cut, one_batch};
-use crate::limit_files::{one_boleto, one_credit, two_batches, BYTES_OF_270_LINES, FULL_BILL};
-use crate::limit_files::{MORE_PAYMENTS, PAYMENTS_IN_270_LINES};
-use crate::places::{AMOUNT_OF_J, BANK, DETAIL_NUMBER, DUE, MOVEMENT, SEGMENT};
+use crate::limit_files::{one_boleto, one_credit, one_due, two_batches, BYTES_OF_270_LINES};
+use crate::limit_files::{FULL_BILL, MORE_PAYMENTS, PAYMENTS_IN_270_LINES};
+use crate::places::{AMOUNT_OF_J, BANK, DETAIL_NUMBER, MOVEMENT, SEGMENT};
 use crate::plain_files::{self, PlainFile, HUNDRED};
 use crate::plain_records::{self, PAYEES};
 use crate::record_kinds::{Direction, RecordKind};
@@ -45,6 +45,8 @@ pub fn all() -> Vec<Case> {
     cases.extend(many_payments());
     cases.extend(large_sums());
     cases.extend(boletos_and_dates());
+    cases.extend(due_dates());
+    cases.extend(wrong_factors());
     cases.extend(cut_files());
     cases.extend(files_in_bits());
     cases
@@ -182,25 +184,70 @@ fn boletos_and_dates() -> Vec<Case> {
         case("29/02/2000", "OK 1 6 1 10000", |out| {
             one_credit(out, b"29022000")
         }),
-        case("due 07/10/1997 without factor", "OK 1 6 1 10000", |out| {
-            one_boleto(out, 0, 0, |line| DUE.put(line, b"07101997"))
-        }),
-        case("due 07/10/1997 with factor 1", "NO 17 3 23", |out| {
-            one_boleto(out, 1, 0, |line| DUE.put(line, b"07101997"))
-        }),
-        case("due 08/10/1997 with factor 1", "OK 1 6 1 10000", |out| {
-            one_boleto(out, 1, 0, |line| DUE.put(line, b"08101997"))
-        }),
         case("discount of all", "OK 1 6 1 0", |out| {
-            one_boleto(out, 0, HUNDRED, |_| {})
+            one_boleto(out, HUNDRED, |_| {})
         }),
         case("discount of more", "NO 19 3 153", |out| {
-            one_boleto(out, 0, HUNDRED + 1, |_| {})
+            one_boleto(out, HUNDRED + 1, |_| {})
         }),
         case("discount of more, below zero", "NO 19 3 153", |out| {
-            one_boleto(out, 0, HUNDRED + 1, |line| {
+            one_boleto(out, HUNDRED + 1, |line| {
                 AMOUNT_OF_J.put_number(line, u128::from(LARGEST_AMOUNT));
             })
+        }),
+    ]
+}
+
+/// Each with its own factor, or with none.
+fn due_dates() -> Vec<Case> {
+    vec![
+        case("due 01/01/1997 without factor", "OK 1 6 1 10000", |out| {
+            one_due(out, b"01011997", 0)
+        }),
+        case("due 07/10/1997 without factor", "OK 1 6 1 10000", |out| {
+            one_due(out, b"07101997", 0)
+        }),
+        case("due 08/10/1997 with factor 1", "OK 1 6 1 10000", |out| {
+            one_due(out, b"08101997", 1)
+        }),
+        case("due 03/07/2000 with factor 1000", "OK 1 6 1 10000", |out| {
+            one_due(out, b"03072000", 1_000)
+        }),
+        case("due 21/02/2025 with factor 9999", "OK 1 6 1 10000", |out| {
+            one_due(out, b"21022025", 9_999)
+        }),
+        case("due 22/02/2025 with factor 1000", "OK 1 6 1 10000", |out| {
+            one_due(out, b"22022025", 1_000)
+        }),
+        case("due 13/10/2049 with factor 9999", "OK 1 6 1 10000", |out| {
+            one_due(out, b"13102049", 9_999)
+        }),
+        case("due 14/10/2049 with factor 1000", "OK 1 6 1 10000", |out| {
+            one_due(out, b"14102049", 1_000)
+        }),
+        case("due 31/12/2199 with factor 1864", "OK 1 6 1 10000", |out| {
+            one_due(out, b"31122199", 1_864)
+        }),
+    ]
+}
+
+/// Around the base and the first turn, with factors of other ways to count.
+fn wrong_factors() -> Vec<Case> {
+    vec![
+        case("due 07/10/1997 with factor 1", "NO 17 3 23", |out| {
+            one_due(out, b"07101997", 1)
+        }),
+        case("due 07/10/1997 with factor 9000", "NO 17 3 23", |out| {
+            one_due(out, b"07101997", 9_000)
+        }),
+        case("due 21/02/2025 with factor 999", "NO 17 3 23", |out| {
+            one_due(out, b"21022025", 999)
+        }),
+        case("due 22/02/2025 with factor 1", "NO 17 3 23", |out| {
+            one_due(out, b"22022025", 1)
+        }),
+        case("due 22/02/2025 with factor 9999", "NO 17 3 23", |out| {
+            one_due(out, b"22022025", 9_999)
         }),
     ]
 }

@@ -2,9 +2,11 @@
 
 use std::io;
 
+use crate::due_dates::DueDate;
 use crate::file_rules::LINE_BYTES;
 use crate::file_state::BatchKind;
-use crate::good_files::{LARGEST_AMOUNT, LARGEST_PAYMENTS};
+use crate::good_files::{put_factor, LARGEST_AMOUNT, LARGEST_PAYMENTS};
+use crate::places::DUE;
 use crate::plain_files::{PlainFile, HUNDRED};
 use crate::plain_records::{self, Bill, PAYEES};
 use crate::record_kinds::{Direction, RecordKind};
@@ -18,7 +20,7 @@ pub const FULL_BILL: Bill = Bill {
     nominal: HUNDRED,
     discount: 0,
     fine: 0,
-    factor: 0,
+    due: None,
 };
 const DATE_OF_A: std::ops::Range<usize> = 93..101;
 
@@ -83,16 +85,24 @@ pub fn one_credit(out: &mut dyn io::Write, date: &[u8]) -> io::Result<()> {
     one_payment(out, BatchKind::Credit, [(RecordKind::A, first), second])
 }
 
-/// A file of one boleto with nominal 100.00 and no fine.
+/// A file of one boleto of 100.00 with this due date and this factor, which
+/// need not be its own.
+pub fn one_due(out: &mut dyn io::Write, due: &DueDate, factor: u32) -> io::Result<()> {
+    one_boleto(out, 0, |line| {
+        DUE.put(line, due);
+        put_factor(line, factor);
+    })
+}
+
+/// A file of one boleto with nominal 100.00, no fine and no factor, whose J is
+/// changed.
 pub fn one_boleto(
     out: &mut dyn io::Write,
-    factor: u32,
     discount: u64,
-    change: fn(&mut [u8]),
+    change: impl Fn(&mut [u8]),
 ) -> io::Result<()> {
     let bill = Bill {
         discount,
-        factor,
         ..FULL_BILL
     };
     let [(_, mut first), second] = plain_records::boleto_records(&PAYEES[1], 1, bill);

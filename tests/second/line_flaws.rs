@@ -1,10 +1,11 @@
 //! What can be wrong with one line of a file, each flaw for a number of its
 //! own. Two flaws on one line show which of them is tested first.
 
-use crate::good_files::{any_factor, put_general_check, MadeLine, LARGEST_AMOUNT};
-use crate::good_files::{MadeFile, LARGEST_BARCODE_CENTS};
+use crate::due_flaws::spoil_due_date;
+use crate::good_files::{put_general_check, MadeFile, MadeLine};
+use crate::good_files::{LARGEST_AMOUNT, LARGEST_BARCODE_CENTS};
 use crate::places::{Part, AMOUNT_OF_J, BANK, BARCODE_CENTS, BARCODE_CHECK, BATCH_NUMBER};
-use crate::places::{BATCH_RECORDS, BATCH_SUM, DETAIL_NUMBER, DISCOUNT, DUE, FACTOR, FILE_BATCHES};
+use crate::places::{BATCH_RECORDS, BATCH_SUM, DETAIL_NUMBER, DISCOUNT, FILE_BATCHES};
 use crate::places::{FILE_RECORDS, FINE, NOMINAL, SEGMENT, TYPE};
 use crate::random::Random;
 use crate::record_cases::fields_to_spoil;
@@ -128,22 +129,6 @@ pub fn change_digit(random: &mut Random, part: Part, line: &mut [u8]) {
     if line[at].is_ascii_digit() {
         line[at] = random.other_digit(line[at]);
     }
-}
-
-/// Due date or factor, the barcode's check being made right again.
-fn spoil_due_date(random: &mut Random, line: &mut [u8]) {
-    if FACTOR.number(line) != 0 && random.coin() {
-        let other: &[u8] = random.pick(&[b"07101997", b"08101997", b"29022024", b"31122199"]);
-        DUE.put(line, other);
-        return;
-    }
-    let other = match random.below(3) {
-        0 => FACTOR.number(line) + 1,
-        1 => FACTOR.number(line) + 1_000,
-        _ => any_factor(random),
-    };
-    FACTOR.put_number(line, u128::from(other));
-    put_general_check(line);
 }
 
 /// Among the wrong cents are those that agree with the last ten digits of a

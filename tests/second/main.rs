@@ -1,7 +1,8 @@
-//! The second program: written from document 01 alone, it asks the payment
-//! desk's probe many questions and compares every reply with its own answer.
-//! It also changes files at their guarded places, feeds large files to the
-//! desk's program, and makes plain files.
+//! The second program: written from document 01 and request 3 of document 02
+//! alone, it asks the payment desk's probe many questions and compares every
+//! reply with its own answer. It also changes files at their guarded places,
+//! feeds large files to the desk's program, and makes plain files. Everywhere
+//! here document 01 is meant with that request in it.
 //!
 //! Build: `rustc -O --edition 2021 main.rs -o second`
 
@@ -15,6 +16,12 @@ mod conversation;
 mod difference;
 mod digit_cases;
 mod digit_strings;
+mod due_cases;
+mod due_claims;
+mod due_dates;
+mod due_factors;
+mod due_flaws;
+mod due_tally;
 mod fault_hunt;
 mod faults;
 mod file_cases;

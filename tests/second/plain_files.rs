@@ -3,14 +3,24 @@
 
 use std::io::{self, Write};
 
+use crate::calendar::MONTHS;
+use crate::due_dates::{due_date, DueDate};
 use crate::file_rules::MOST_PAYMENTS;
 use crate::file_state::BatchKind;
+use crate::good_files::put_factor;
 use crate::numbering::Numbering;
 use crate::plain_records::{self, Bill, BANK, PAYEES};
 use crate::record_kinds::{Direction, RecordKind};
 
 /// Names of the files, as they are asked for.
-pub const NAMES: [&str; 5] = ["one-payment", "boleto", "return", "batches", "bench N"];
+pub const NAMES: [&str; 6] = [
+    "one-payment",
+    "boleto",
+    "last-round",
+    "return",
+    "batches",
+    "bench N",
+];
 const BENCH: &str = "bench";
 /// Two records each, and enough left of 999,999 for the ends of all batches.
 const MOST_BENCH_PAYMENTS: u64 = 499_900;
@@ -20,12 +30,17 @@ pub const HUNDRED: u64 = 10_000;
 pub const CREDIT_FORM: &[u8] = b"41";
 pub const BOLETO_FORM: &[u8] = b"31";
 /// Due three days before the day these files are made, and later.
-const FACTOR_PAST: u32 = 9_985;
-const FACTOR_SOON: u32 = 9_995;
-const FACTOR_LATER: u32 = 9_999;
-/// The factors of the long file go round from here to the last there is.
-const FIRST_BENCH_FACTOR: u64 = 1_000;
-const BENCH_FACTORS: u64 = 9_000;
+const DUE_PAST: DueDate = *b"13112026";
+const DUE_SOON: DueDate = *b"19112026";
+const DUE_LATER: DueDate = *b"15122026";
+/// The largest factor, which last was that of 21 February 2025.
+const FACTOR_OF_THE_LAST_ROUND: u32 = 9_999;
+/// The due dates of the long file: so many years, and in each month the days
+/// that every month has.
+const FIRST_BENCH_YEAR: u64 = 2026;
+const BENCH_YEARS: u64 = 20;
+const BENCH_MONTHS: u64 = MONTHS as u64;
+const BENCH_DAYS: u64 = 28;
 
 /// A file that is written line by line and never held as a whole.
 pub struct PlainFile<'a> {
@@ -83,9 +98,21 @@ impl PlainFile<'_> {
     }
 
     pub fn boleto(&mut self, payee: usize, bill: Bill) -> io::Result<()> {
+        self.changed_boleto(payee, bill, |_| {})
+    }
+
+    /// Adds a boleto whose J is changed.
+    fn changed_boleto(
+        &mut self,
+        payee: usize,
+        bill: Bill,
+        change: fn(&mut [u8]),
+    ) -> io::Result<()> {
         self.documents += 1;
-        let records = plain_records::boleto_records(&PAYEES[payee], self.documents, bill);
-        self.add_payment(records)
+        let [(kind, mut first), second] =
+            plain_records::boleto_records(&PAYEES[payee], self.documents, bill);
+        change(&mut first);
+        self.add_payment([(kind, first), second])
     }
 
     pub fn add_payment(&mut self, records: [(RecordKind, Vec<u8>); 2]) -> io::Result<()> {
@@ -118,10 +145,10 @@ impl PlainFile<'_> {
             let number = self.documents;
             let payee = number as usize % PAYEES.len();
             let cents = HUNDRED + number * 37;
-            let factor = (FIRST_BENCH_FACTOR + number % BENCH_FACTORS) as u32;
+            let due = Some(bench_due_date(number));
             match kind {
                 BatchKind::Credit => self.credit(payee, cents)?,
-                BatchKind::Boleto => self.boleto(payee, bill(cents, number % 100, 0, factor))?,
+                BatchKind::Boleto => self.boleto(payee, bill(cents, number % 100, 0, due))?,
             }
         }
         self.close_batch()
@@ -154,7 +181,10 @@ pub fn write(out: &mut dyn Write, name: &[String]) -> Result<(), String> {
     let name: Vec<&str> = name.iter().map(String::as_str).collect();
     let written = match name.as_slice() {
         ["one-payment"] => write_one_payment(out),
-        ["boleto"] => write_boleto(out),
+        ["boleto"] => write_boletos(out, |_| {}),
+        ["last-round"] => write_boletos(out, |record| {
+            put_factor(record, FACTOR_OF_THE_LAST_ROUND);
+        }),
         ["return"] => write_return(out),
         ["batches"] => write_batches(out),
         [BENCH, payments] => write_bench(out, bench_payments(payments)?),
@@ -164,11 +194,13 @@ pub fn write(out: &mut dyn Write, name: &[String]) -> Result<(), String> {
     written.map_err(|error| format!("cannot write the file: {error}"))
 }
 
-fn write_boleto(out: &mut dyn Write) -> io::Result<()> {
+/// Two boletos, the second of which has no due date in its barcode; its J is
+/// changed.
+fn write_boletos(out: &mut dyn Write, change: fn(&mut [u8])) -> io::Result<()> {
     let mut file = PlainFile::begin(out, Direction::Remittance)?;
     file.open_batch(BatchKind::Boleto)?;
-    file.boleto(0, bill(125_000, 2_500, 0, FACTOR_LATER))?;
-    file.boleto(1, bill(48_750, 0, 975, 0))?;
+    file.boleto(0, bill(125_000, 2_500, 0, Some(DUE_LATER)))?;
+    file.changed_boleto(1, bill(48_750, 0, 975, None), change)?;
     file.close_batch()?;
     file.close()
 }
@@ -181,8 +213,8 @@ fn write_return(out: &mut dyn Write) -> io::Result<()> {
     file.credit(2, 89_990)?;
     file.close_batch()?;
     file.open_batch(BatchKind::Boleto)?;
-    file.boleto(1, bill(48_750, 0, 975, FACTOR_PAST))?;
-    file.boleto(3, bill(21_435, 0, 0, FACTOR_SOON))?;
+    file.boleto(1, bill(48_750, 0, 975, Some(DUE_PAST)))?;
+    file.boleto(3, bill(21_435, 0, 0, Some(DUE_SOON)))?;
     file.z()?;
     file.close_batch()?;
     file.close()
@@ -196,8 +228,8 @@ fn write_batches(out: &mut dyn Write) -> io::Result<()> {
     file.credit(2, 89_990)?;
     file.close_batch()?;
     file.open_batch(BatchKind::Boleto)?;
-    file.boleto(1, bill(48_750, 0, 975, FACTOR_PAST))?;
-    file.boleto(3, bill(21_435, 435, 0, 0))?;
+    file.boleto(1, bill(48_750, 0, 975, Some(DUE_PAST)))?;
+    file.boleto(3, bill(21_435, 435, 0, None))?;
     file.close_batch()?;
     file.open_batch(BatchKind::Credit)?;
     file.credit(3, 12_500)?;
@@ -225,11 +257,19 @@ fn bench_payments(given: &str) -> Result<u64, String> {
     possible.ok_or_else(|| format!("the long file has 1 to {MOST_BENCH_PAYMENTS} payments"))
 }
 
-fn bill(nominal: u64, discount: u64, fine: u64, factor: u32) -> Bill {
+/// Every due date before any comes again.
+fn bench_due_date(number: u64) -> DueDate {
+    let day = 1 + number % BENCH_DAYS;
+    let month = 1 + number / BENCH_DAYS % BENCH_MONTHS;
+    let year = FIRST_BENCH_YEAR + number / BENCH_DAYS / BENCH_MONTHS % BENCH_YEARS;
+    due_date(day as u32, month as u32, year as u32)
+}
+
+fn bill(nominal: u64, discount: u64, fine: u64, due: Option<DueDate>) -> Bill {
     Bill {
         nominal,
         discount,
         fine,
-        factor,
+        due,
     }
 }

@@ -1,16 +1,17 @@
 //! Records that a person can read, with invented contents: a clinic pays its
 //! suppliers. What follows from other lines is still to be filled in.
 
-use crate::calendar::Calendar;
+use crate::due_dates::DueDate;
+use crate::due_factors::DueFactors;
 use crate::file_state::BatchKind;
-use crate::good_files::put_general_check;
+use crate::good_files::put_factor;
 use crate::places::{AMOUNT_OF_A, AMOUNT_OF_J, BARCODE_CENTS, DIRECTION, DISCOUNT, DUE};
-use crate::places::{FACTOR, FINE, NOMINAL, SERVICE_AND_FORM};
+use crate::places::{FINE, NOMINAL, SERVICE_AND_FORM};
 use crate::record_kinds::{Direction, RecordKind};
 use crate::record_table::{self as table, Entry, CREDIT_SERVICE, RECORD_BYTES};
 
 pub const BANK: &[u8] = b"085";
-const TODAY: &[u8] = b"10022025";
+const TODAY: &[u8] = b"16112026";
 const NOW: &[u8] = b"143000";
 const CLINIC: &str = "CLINICA BOA VISTA LTDA";
 const CLINIC_NUMBER: &str = "12345678000195";
@@ -35,7 +36,7 @@ pub const PAYEES: [Payee; 4] = [
     Payee {
         name: "OXIGENIO DO VALE LTDA",
         number_kind: "2",
-        number: "23456789000110",
+        number: "23456789000195",
         bank: "001",
         agency: "01234",
         account: "000000056789",
@@ -44,7 +45,7 @@ pub const PAYEES: [Payee; 4] = [
     Payee {
         name: "LAVANDERIA AGUA CLARA ME",
         number_kind: "2",
-        number: "34567890000121",
+        number: "34567890000130",
         bank: "237",
         agency: "00456",
         account: "000000012340",
@@ -62,7 +63,7 @@ pub const PAYEES: [Payee; 4] = [
     Payee {
         name: "PAPELARIA CENTRAL LTDA",
         number_kind: "2",
-        number: "45678901000132",
+        number: "45678901000175",
         bank: "341",
         agency: "00789",
         account: "000000003210",
@@ -76,8 +77,8 @@ pub struct Bill {
     pub nominal: u64,
     pub discount: u64,
     pub fine: u64,
-    /// 0 for no due date in the barcode.
-    pub factor: u32,
+    /// Nothing for no due date in the barcode: the boleto is due today then.
+    pub due: Option<DueDate>,
 }
 
 /// Every field filled with what stands for nothing in it.
@@ -184,13 +185,11 @@ pub fn boleto_records(payee: &Payee, document: u64, bill: Bill) -> [(RecordKind,
     let mut first = empty(RecordKind::J);
     let document = format!("NF {document:06}");
     put_all(&mut first, &[(62, payee.name), (183, document.as_str())]);
-    if bill.factor != 0 {
-        let due = Calendar::of_the_paper().date_of_factor(bill.factor);
+    if let Some(due) = bill.due {
         DUE.put(&mut first, &due);
     }
     let amount = (bill.nominal + bill.fine).saturating_sub(bill.discount);
     for (part, number) in [
-        (FACTOR, u64::from(bill.factor)),
         (BARCODE_CENTS, bill.nominal),
         (NOMINAL, bill.nominal),
         (DISCOUNT, bill.discount),
@@ -199,7 +198,8 @@ pub fn boleto_records(payee: &Payee, document: u64, bill: Bill) -> [(RecordKind,
     ] {
         part.put_number(&mut first, u128::from(number));
     }
-    put_general_check(&mut first);
+    let factor = bill.due.and_then(|due| DueFactors::of_the_paper().of(&due));
+    put_factor(&mut first, factor.unwrap_or(0));
     [
         (RecordKind::J, first),
         (RecordKind::J52, debtor_and_payee(payee)),

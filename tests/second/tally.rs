@@ -4,6 +4,7 @@
 use std::collections::BTreeMap;
 use std::fmt;
 
+use crate::due_tally::DueTally;
 use crate::probe::{Call, Op, Request};
 use crate::replies::{Answer, Verdict, MALFORMED};
 use crate::script_tally::ScriptTally;
@@ -61,6 +62,7 @@ pub struct Tally {
     /// By answer and column. A request of single-line calls has several answers.
     seen: BTreeMap<(String, &'static str), usize>,
     requests: BTreeMap<&'static str, usize>,
+    dues: DueTally,
     scripts: ScriptTally,
 }
 
@@ -72,8 +74,10 @@ impl Tally {
             let key = (answer_name(line.verdict), column);
             *self.seen.entry(key).or_default() += 1;
         }
-        if let Some(Call::WriteFile { room }) = request.call() {
-            self.scripts.count(&request.script(), room);
+        match request.call() {
+            Some(Call::CheckFile) => self.dues.count(&request.payload, answer),
+            Some(Call::WriteFile { room }) => self.scripts.count(&request.script(), room),
+            _ => {}
         }
     }
 
@@ -102,6 +106,7 @@ impl Tally {
         if in_table != self.seen.values().sum() {
             gaps.push("some answers have no place in the table".to_string());
         }
+        gaps.extend(self.dues.gaps());
         gaps.extend(self.scripts.gaps());
         gaps
     }
@@ -152,6 +157,6 @@ impl fmt::Display for Tally {
             let requests = self.requests.get(column).copied().unwrap_or(0);
             write!(out, "{requests:>8}")?;
         }
-        write!(out, "\n{}", self.scripts.summary())
+        write!(out, "\n{}\n{}", self.dues.summary(), self.scripts.summary())
     }
 }

@@ -1,7 +1,8 @@
 // Prints what the calendar says, to be held against an outside calendar. For each year from 1996 to
 // 2200: the year, how many dates DDMMAAAA of it exist among days 0 to 32 of months 0 to 13, the day
-// number of its 31 December and the due factor of its 1 March. Then how many times HHMMSS there are
-// among all numbers of six digits.
+// number of its 31 December and the due factor of its 1 March. Then, of all dates in their order, those
+// whose factor is not the next behind the last date's: day, month, year, the last date's factor and its
+// own. Then how many times HHMMSS there are among all numbers of six digits.
 use calendar::Date;
 use libc::STDOUT_FILENO;
 ghost use Prim.Native.Nat.{_≤_};
@@ -15,6 +16,12 @@ const FIRST_TRIED: u64 = 1996;
 const LAST_TRIED: u64 = 2200;
 
 const TIMES_TRIED: u64 = 1000000;
+
+const LONGEST_MONTH: u64 = 31;
+
+const MONTHS: u64 = 12;
+
+const DATES_TRIED: u64 = (LAST_TRIED + 1 - FIRST_TRIED) * MONTHS * LONGEST_MONTH;
 
 // DDMM0000
 const LAST_OF_DECEMBER: u64 = 31120000;
@@ -84,8 +91,52 @@ fn print_years() {
     }
 }
 
+// Whether a date's factor is the next behind the last date's: one more, or still none.
+fn goes_on(last: u64, factor: u64) -> bool {
+    if factor < 2 {
+        return (factor == 0) & (last == 0);
+    }
+    factor - 1 == last
+}
+
+fn print_turn(date: Date, last: u64, factor: u64) {
+    io::print_decimal(STDOUT_FILENO, date.day);
+    spaced(date.month);
+    spaced(date.year);
+    spaced(last);
+    spaced(factor);
+    io::write_all(STDOUT_FILENO, b"\n");
+}
+
+// The factor of this date, which is printed if it is not the next; the last one's if there is no such date.
+fn factor_behind(last: u64, date: Date) -> u64 {
+    if !date.exists() {
+        return last;
+    }
+    let factor = date.due_factor();
+    if !goes_on(last, factor) {
+        print_turn(date, last, factor);
+    }
+    factor
+}
+
+fn print_turns() {
+    let mut last = 0;
+    let mut tried = 0;
+    while tried < DATES_TRIED {
+        let date = Date {
+            day: 1 + tried % LONGEST_MONTH,
+            month: 1 + tried / LONGEST_MONTH % MONTHS,
+            year: FIRST_TRIED + tried / LONGEST_MONTH / MONTHS,
+        };
+        last = factor_behind(last, date);
+        tried += 1;
+    }
+}
+
 fn main() {
     print_years();
+    print_turns();
     io::print_decimal(STDOUT_FILENO, times());
     io::write_all(STDOUT_FILENO, b"\n");
 }

@@ -9,10 +9,17 @@ ghost use mathlib.Core.Path.{_≡_};
 ghost use Prim.Native.Nat.{_-_, _≤_};
 ghost use lib.ListN.{take};
 ghost use Rattle.calendar.specs.Calendar.{firstYear, lastYear, months};
-ghost use Rattle.calendar.specs.Due.{total, daysOfYears, dayNumber, factorOf, factorFits};
+ghost use Rattle.calendar.specs.Due.{total, daysOfYears, dayNumber, dueDays, folded, factorOf, factorFits};
 
 // The day number of 7 October 1997, from which the factor counts.
 const FACTOR_BASE: u64 = 280;
+
+// Behind the last factor the count returns to this one, round after round.
+const LAST_FACTOR: u64 = 9999;
+
+const RETURNS_TO: u64 = 1000;
+
+const ROUND_DAYS: u64 = LAST_FACTOR + 1 - RETURNS_TO;
 
 const COMMON_YEAR: u64 = 365;
 
@@ -46,6 +53,16 @@ fn days_before_month(month: u64, year: u64) -> u64
     by_turns - (SHORT_MONTH - february_days(year))
 }
 
+// Days as a factor: up to the last factor they are it, later ones are folded into a round.
+fn folded(days: u64) -> u64
+    ensures { λ r. ⌜ r ≡ folded days ⌝ }
+{
+    if days <= LAST_FACTOR {
+        return days;
+    }
+    RETURNS_TO + (days - RETURNS_TO) % ROUND_DAYS
+}
+
 impl Date {
     // 1 January 1997 is 1; a date that does not exist has no number: 0.
     pub fn day_number(self) -> u64
@@ -57,15 +74,23 @@ impl Date {
         days_before_year(self.year) + days_before_month(self.month, self.year) + self.day
     }
 
-    // The factor of a due date; 0 for one that has none.
-    pub fn due_factor(self) -> u64
-        ensures { λ r. ⌜ r ≡ factorOf self ⌝ }
+    // The days after 7 October 1997; 0 up to that day.
+    fn due_days(self) -> u64
+        ensures { λ r. ⌜ r ≡ dueDays self ⌝ }
     {
         let day = self.day_number();
         if day < FACTOR_BASE {
-            return 0;
+            0
+        } else {
+            day - FACTOR_BASE
         }
-        day - FACTOR_BASE
+    }
+
+    // The one factor of a due date; 0 for one that has none.
+    pub fn due_factor(self) -> u64
+        ensures { λ r. ⌜ r ≡ factorOf self ⌝ }
+    {
+        folded(self.due_days())
     }
 
     // Whether a boleto with this factor may be due on this date: 0 means no due date.

@@ -68,7 +68,7 @@ between p q r = within (suc p) q (fieldsOf r)
 abbrev pub cents : Field → List ℕ → ℕ
 cents f rec = value (part f rec)
 
--- a factor other than 0 gives the due date
+-- a factor other than 0 is the due date's
 abbrev pub dueFits : List ℕ → Bool
 dueFits rec = factorFits (value (factorDigits (part barcodeField rec))) (dateOf (value (part dueField rec)))
 

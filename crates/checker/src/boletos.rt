@@ -17,7 +17,7 @@ ghost use Rattle.checker.specs.Line.{cents, dueFits, centsFit, amountFit
 // A barcode that leaves the cents to the record.
 const NOT_STATED: Cents = Cents(0);
 
-// A factor other than 0 gives the due date.
+// A factor other than 0 is the due date's.
 fn due_fits(rec: &[u8]) -> bool
     requires { ⌜ length (now rec) ≡ recordBytes ⌝ }
     ensures { λ r. ⌜ r ≡ dueFits (now (rec .entry)) ⌝ }

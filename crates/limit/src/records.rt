@@ -8,7 +8,7 @@ use layout::names;
 const REMITTANCE: u64 = 1;
 
 // DDMMAAAA
-const TODAY: u64 = 10022025;
+const TODAY: u64 = 16112026;
 
 const SUPPLIERS: u64 = 20;
 

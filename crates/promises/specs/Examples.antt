@@ -1,6 +1,6 @@
--- The table of proved examples: twelve, in one statement. Assumes nothing.
+-- The table of proved examples: thirteen, in one statement. Assumes nothing.
 use Rattle.layout.specs.Kinds.{same}
-use mathlib.Core.Bool.{Bool, true, not, _&&_}
+use mathlib.Core.Bool.{Bool, true, _&&_}
 use mathlib.Core.List.{List, [], _∷_}
 use Prim.Native.Char.{code}
 use Prim.Native.Nat.{ℕ}
@@ -11,7 +11,7 @@ use Rattle.digits.specs.Digits.{leading, weighed}
 use Rattle.digits.specs.Checks.{counts, lift, checkDigit}
 use Rattle.digits.specs.declared.sealing.Modulus.the-variants.{Ten, Eleven}
 use Rattle.calendar.specs.Calendar.{date, exists}
-use Rattle.calendar.specs.Due.{daysOfYears, dayNumber, factorOf, noDueDate, factorFits}
+use Rattle.calendar.specs.Due.{daysOfYears, dayNumber, dueDays, folded, factorOf, noDueDate}
 use Rattle.calendar.specs.declared.Date.{Date}
 use Rattle.boleto.specs.Strings.{digitLineOf}
 use Rattle.boleto.specs.Rules.{headRules, barcodeRules}
@@ -26,15 +26,15 @@ pub data Example : Type 0 where
   generalCheck : String → ℕ → Example
   barcode : String → String → Example
   undated : ℕ → Example
-  due : ℕ → Date → Example
+  due : Date → ℕ → Example
 
--- a check digit; a valid barcode and its line; a factor that names no date; a factor and the date, which exists, that it gives
+-- a check digit; a valid barcode and its line; a factor that means no due date; a date that exists, and its factor
 unfoldable pub holds : Example → Bool
 holds (fieldCheck s d) = eqb (checkDigit Ten (bytes s)) d
 holds (generalCheck s d) = eqb (checkDigit Eleven (bytes s)) d
 holds (barcode b l) = accepts (firstBroken (barcodeRules (bytes b))) && same (digitLineOf (bytes b)) (bytes l)
 holds (undated f) = noDueDate f
-holds (due f d) = not (noDueDate f) && (exists d && factorFits f d)
+holds (due d f) = exists d && eqb (factorOf d) f
 
 unfoldable pub table : List Example
 table =
@@ -47,9 +47,10 @@ table =
     ∷ generalCheck "0009000000000000000000000000000000000000009" 1
     ∷ barcode "08592726900000100001040800011111000000000401" "08591040850001111100200000004010272690000010000"
     ∷ undated 0
-    ∷ due 1000 (date 3 7 2000)
-    ∷ due 7269 (date 1 9 2017)
-    ∷ due 9999 (date 21 2 2025)
+    ∷ due (date 3 7 2000) 1000
+    ∷ due (date 1 9 2017) 7269
+    ∷ due (date 21 2 2025) 9999
+    ∷ due (date 22 2 2025) 1000
     ∷ []
 
 abbrev pub every : List Example → Bool
@@ -57,5 +58,5 @@ every [] = true
 every (e ∷ es) = holds e && every es
 
 pub table-holds : T (every table)
-unfolding table holds same checkDigit counts lift weighed leading headRules barcodeRules firstBroken digitLineOf exists daysOfYears dayNumber factorOf
+unfolding table holds same checkDigit counts lift weighed leading headRules barcodeRules firstBroken digitLineOf exists daysOfYears dayNumber dueDays folded factorOf
 table-holds = tt

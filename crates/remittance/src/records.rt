@@ -10,7 +10,7 @@ use writer::Payment;
 const BANK: u64 = 85;
 
 // DDMMAAAA, and HHMMSS.
-const TODAY: u64 = 10022025;
+const TODAY: u64 = 16112026;
 
 const NOW: u64 = 143000;
 
@@ -36,15 +36,15 @@ const PAYEE_ACCOUNT: u64 = 56789;
 
 const CREDIT: Cents = Cents(10000);
 
-// A boleto's amount is its nominal less the discount. The barcode has the nominal and the due date
-// too, and they have to agree.
+// A boleto's amount is its nominal less the discount. The barcode has the nominal too, and the factor
+// of the due date, 1661, and they have to agree.
 const NOMINAL: Cents = Cents(125000);
 
 const DISCOUNT: Cents = Cents(2500);
 
 const BOLETO: Cents = Cents(NOMINAL.0 - DISCOUNT.0);
 
-const DUE: u64 = 21022025;
+const DUE: u64 = 15122026;
 
 pub(crate) fn file_header() -> Fields {
     Fields::blank(Record::FileHeader)
@@ -92,7 +92,7 @@ fn segment_a() -> Fields {
 fn segment_b() -> Fields {
     Fields::blank(Record::SegmentB)
         .with_number(names::B_ID_TYPE, CNPJ)
-        .with_text(names::B_ID, b"23456789000110")
+        .with_text(names::B_ID, b"23456789000195")
         .with_text(names::B_ADDRESS, b"RUA DAS PALMEIRAS, 77")
 }
 
@@ -101,7 +101,7 @@ fn segment_j() -> Fields {
     Fields::blank(Record::SegmentJ)
         .with_text(
             names::J_BARCODE,
-            b"08598999900001250000104080001111100000000401",
+            b"08598166100001250000104080001111100000000401",
         )
         .with_text(names::J_PAYEE, b"OXIGENIO DO VALE LTDA")
         .with_number(names::J_DUE, DUE)
@@ -119,7 +119,7 @@ fn segment_j52() -> Fields {
         .with_text(names::J52_PAYER_ID, b"012345678000195")
         .with_text(names::J52_PAYER, b"CLINICA BOA VISTA LTDA")
         .with_number(names::J52_PAYEE_ID_TYPE, CNPJ)
-        .with_text(names::J52_PAYEE_ID, b"023456789000110")
+        .with_text(names::J52_PAYEE_ID, b"023456789000195")
         .with_text(names::J52_PAYEE, b"OXIGENIO DO VALE LTDA")
         .with_text(names::J52_GUARANTOR_ID, b"000000000000000")
 }

@@ -1,14 +1,15 @@
--- The days of months and years by closed arithmetic: the months by tests that antt computes, the years by induction. Assumes nothing.
+-- The days of months and years, how they grow and by closed arithmetic: the months of both kinds of years by tests that antt computes, the years by
+-- induction. Assumes nothing.
 use mathlib.Core.Path.{_≡_, refl, sym, ap, _∙_, subst}
 use mathlib.Core.Bool.{Bool, true, false, not, cond, _&&_, _||_}
-use mathlib.Core.List.{List}
+use mathlib.Core.List.{List, [], _∷_}
 use mathlib.Core.Logic.{_≢_, _⊎_, inl, inr}
 use Prim.Native.Nat.{ℕ, zero, suc, _+_, _-_, _*_, _/_, _%_, _<_, _≤_}
 use native.Mathlib.Numerals.{sub-one}
 use native.Mathlib.Nat.{eq-or-lt-of-le, mod-lt, mod-eq-of-lt, mod-self, div-self, div-eq-of-lt, div-add-mod, mul-add-div, mul-add-mod-self-left}
 use native.Mathlib.Omega.{arith}
 use borrow.Author.Tests.{eqb-true, eqb-false, ne-eqb}
-use lib.Dec.{T, eqb, leb, ltb, eqb→eq, leb→le, not-T}
+use lib.Dec.{T, eqb, ltb, eqb→eq, not-T}
 use lib.ListN.{getD, take}
 use Rattle.digits.specs.laws.Tests.{every, every-at, or-left}
 use Rattle.calendar.specs.Calendar.{firstYear, leap, february, months}
@@ -69,17 +70,13 @@ closed-test false = tt
 pub months-closed : (y k : ℕ) → k < 12 → total (take k (months y)) ≡ cond (ltb k 2) (byTurns k) (byTurns k - (30 - february y))
 months-closed y k h = eqb→eq _ _ (every-year closedAt closed-test y k h)
 
-abbrev inYear : List ℕ → ℕ → Bool
-inYear l k = leb (total (take k l) + getD l k 0) 366
-
-year-test : (b : Bool) → T (every 12 (inYear (months (like b))))
-unfolding every
-year-test true = tt
-year-test false = tt
-
--- the months to any one of a year have no more days than a leap year has
-pub in-year : (y k : ℕ) → k < 12 → total (take k (months y)) + getD (months y) k 0 ≤ 366
-in-year y k h = leb→le _ _ (every-year inYear year-test y k h)
+-- the months before one, with it, have no more days than those before any later one
+pub months-grow : (l : List ℕ) (j k : ℕ) → j < k → total (take j l) + getD l j 0 ≤ total (take k l)
+months-grow l j zero h = absurd (omega arith)
+months-grow [] zero (suc k) h = omega arith
+months-grow [] (suc j) (suc k) h = omega arith
+months-grow (n ∷ l) zero (suc k) h = omega arith
+months-grow (n ∷ l) (suc j) (suc k) h = omega (arith, months-grow l j k (omega arith))
 
 -- ---- years
 
@@ -92,6 +89,26 @@ year-days y = by-leap (leap y) refl
     by-leap : (b : Bool) → leap y ≡ b → total (months y) ≡ 365 + counted b
     by-leap true e = rw e
     by-leap false e = rw e
+
+-- the months before one, with it, have no more days than their year, and that no more than a leap year has
+pub in-year : (y k : ℕ) → k < 12 → (total (take k (months y)) + getD (months y) k 0 ≤ total (months y)) × (total (months y) ≤ 366)
+in-year y k h = (months-grow (months y) k 12 h, by-leap (leap y) (year-days y))
+  where
+    by-leap : (b : Bool) → total (months y) ≡ 365 + counted b → total (months y) ≤ 366
+    by-leap true e = omega arith
+    by-leap false e = omega arith
+
+-- the years before one, with it, have no more days than those before any later one
+pub years-grow : (j k : ℕ) → j < k → daysOfYears j + total (months (firstYear + j)) ≤ daysOfYears k
+unfolding daysOfYears
+years-grow j zero h = absurd (omega arith)
+years-grow j (suc k) h = by-last (years-grow j k) (eq-or-lt-of-le (omega arith))
+  where
+    by-last : (j < k → daysOfYears j + total (months (firstYear + j)) ≤ daysOfYears k)
+        → (j ≡ k) ⊎ (j < k)
+        → daysOfYears j + total (months (firstYear + j)) ≤ daysOfYears k + total (months (firstYear + k))
+    by-last before (inl e) = rw e (omega arith)
+    by-last before (inr l) = omega (arith, before l)
 
 -- up to one number more there is one multiple of d more, where it is one
 rest-turn : (d r : ℕ) → 0 < d → (suc r ≡ d) ⊎ (suc r < d) → suc r / d ≡ counted (eqb (suc r % d) 0)

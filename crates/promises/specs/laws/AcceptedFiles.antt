@@ -7,7 +7,7 @@ use Rattle.digits.specs.Digits.{leading, weighed}
 use Rattle.digits.specs.Numbers.{numberOf}
 use Rattle.digits.specs.Checks.{counts, lift, checkDigit}
 use Rattle.calendar.specs.Calendar.{exists, dateFits, timeFits}
-use Rattle.calendar.specs.Due.{daysOfYears, dayNumber, factorOf}
+use Rattle.calendar.specs.Due.{daysOfYears, dayNumber, dueDays, folded, factorOf}
 use Rattle.layout.specs.Kinds.{same}
 use Rattle.layout.specs.Pairs.{batchOf}
 use Rattle.layout.specs.Record.{rulesOf, clean}
@@ -21,10 +21,10 @@ use Rattle.promises.specs.Examples.{bytes}
 
 abbrev pub creditFile : List ℕ
 creditFile =
-    lineFrom (bytes "08500000         212345678000195CONVENIO 004711     0010170000000043210 CLINICA BOA VISTA LTDA        BANCO DO VALE                           11002202514300000004210300000                                                                     ")
+    lineFrom (bytes "08500000         212345678000195CONVENIO 004711     0010170000000043210 CLINICA BOA VISTA LTDA        BANCO DO VALE                           11611202614300000004210300000                                                                     ")
     ++ lineFrom (bytes "08500011C2041045 212345678000195CONVENIO 004711     0010170000000043210 CLINICA BOA VISTA LTDA        PAGAMENTO DE FORNECEDORES               RUA DAS FLORES                00120SALA 4         BLUMENAU            89010000SC                  ")
-    ++ lineFrom (bytes "0850001300001A0000180010123410000000567895 OXIGENIO DO VALE LTDA         NF 000001           10022025BRL000000000000000000000000010000                    00000000000000000000000                                                               ")
-    ++ lineFrom (bytes "0850001300002B   223456789000110RUA DAS PALMEIRAS             00077                              BLUMENAU            89010000SC                                                                                                                 ")
+    ++ lineFrom (bytes "0850001300001A0000180010123410000000567895 OXIGENIO DO VALE LTDA         NF 000001           16112026BRL000000000000000000000000010000                    00000000000000000000000                                                               ")
+    ++ lineFrom (bytes "0850001300002B   223456789000195RUA DAS PALMEIRAS             00077                              BLUMENAU            89010000SC                                                                                                                 ")
     ++ lineFrom (bytes "08500015         000004000000000000010000000000000000000000000000                                                                                                                                                                               ")
     ++ lineFrom (bytes "08599999         000001000006000000                                                                                                                                                                                                             ")
 
@@ -34,23 +34,23 @@ credit-file = refl
 
 abbrev pub returnFile : List ℕ
 returnFile =
-    lineFrom (bytes "08500000         212345678000195CONVENIO 004711     0010170000000043210 CLINICA BOA VISTA LTDA        BANCO DO VALE                           21002202514300000004210300000                                                                     ")
+    lineFrom (bytes "08500000         212345678000195CONVENIO 004711     0010170000000043210 CLINICA BOA VISTA LTDA        BANCO DO VALE                           21611202614300000004210300000                                                                     ")
     ++ lineFrom (bytes "08500011C2041045 212345678000195CONVENIO 004711     0010170000000043210 CLINICA BOA VISTA LTDA        PAGAMENTO DE FORNECEDORES               RUA DAS FLORES                00120SALA 4         BLUMENAU            89010000SC                  ")
-    ++ lineFrom (bytes "0850001300001A0000180010123410000000567895 OXIGENIO DO VALE LTDA         NF 000001           10022025BRL000000000000000000000000315000                    00000000000000000000000                                                               ")
-    ++ lineFrom (bytes "0850001300002B   223456789000110RUA DAS PALMEIRAS             00077                              BLUMENAU            89010000SC                                                                                                                 ")
+    ++ lineFrom (bytes "0850001300001A0000180010123410000000567895 OXIGENIO DO VALE LTDA         NF 000001           16112026BRL000000000000000000000000315000                    00000000000000000000000                                                               ")
+    ++ lineFrom (bytes "0850001300002B   223456789000195RUA DAS PALMEIRAS             00077                              BLUMENAU            89010000SC                                                                                                                 ")
     ++ lineFrom (bytes "0850001300003ZAUTENTICACAO 0000000001                                                                                                                                                                                                           ")
-    ++ lineFrom (bytes "0850001300004A0000181040200110000000987655 MARIA APARECIDA LIMA          NF 000002           10022025BRL000000000000000000000000089990                    00000000000000000000000                                                               ")
+    ++ lineFrom (bytes "0850001300004A0000181040200110000000987655 MARIA APARECIDA LIMA          NF 000002           16112026BRL000000000000000000000000089990                    00000000000000000000000                                                               ")
     ++ lineFrom (bytes "0850001300005B   100012345678909TRAVESSA DO SOL               00077                              BLUMENAU            89010000SC                                                                                                                 ")
     ++ lineFrom (bytes "08500015         000007000000000000404990000000000000000000000000                                                                                                                                                                               ")
     ++ lineFrom (bytes "08500021C0131045 212345678000195CONVENIO 004711     0010170000000043210 CLINICA BOA VISTA LTDA        PAGAMENTO DE FORNECEDORES               RUA DAS FLORES                00120SALA 4         BLUMENAU            89010000SC                  ")
-    ++ lineFrom (bytes "0850002300001J00008591998500000487500104080001111100000000401LAVANDERIA AGUA CLARA ME      0702202500000000004875000000000000000000000000000097510022025000000000049725000000000000000NF 000003                               09                ")
-    ++ lineFrom (bytes "0850002300002J 00522012345678000195CLINICA BOA VISTA LTDA                  2034567890000121LAVANDERIA AGUA CLARA ME                0000000000000000                                                                                             ")
-    ++ lineFrom (bytes "0850002300003J00008592999500000214350104080001111100000000401PAPELARIA CENTRAL LTDA        1702202500000000002143500000000000000000000000000000010022025000000000021435000000000000000NF 000004                               09                ")
-    ++ lineFrom (bytes "0850002300004J 00522012345678000195CLINICA BOA VISTA LTDA                  2045678901000132PAPELARIA CENTRAL LTDA                  0000000000000000                                                                                             ")
+    ++ lineFrom (bytes "0850002300001J00008591162900000487500104080001111100000000401LAVANDERIA AGUA CLARA ME      1311202600000000004875000000000000000000000000000097516112026000000000049725000000000000000NF 000003                               09                ")
+    ++ lineFrom (bytes "0850002300002J 00522012345678000195CLINICA BOA VISTA LTDA                  2034567890000130LAVANDERIA AGUA CLARA ME                0000000000000000                                                                                             ")
+    ++ lineFrom (bytes "0850002300003J00008592163500000214350104080001111100000000401PAPELARIA CENTRAL LTDA        1911202600000000002143500000000000000000000000000000016112026000000000021435000000000000000NF 000004                               09                ")
+    ++ lineFrom (bytes "0850002300004J 00522012345678000195CLINICA BOA VISTA LTDA                  2045678901000175PAPELARIA CENTRAL LTDA                  0000000000000000                                                                                             ")
     ++ lineFrom (bytes "0850002300005ZAUTENTICACAO 0000000004                                                                                                                                                                                                           ")
     ++ lineFrom (bytes "08500025         000007000000000000071160000000000000000000000000                                                                                                                                                                               ")
     ++ lineFrom (bytes "08599999         000002000016000000                                                                                                                                                                                                             ")
 
 pub return-file : checkFile returnFile ≡ Accepted (totals 2 16 4 476150)
-unfolding firstBroken leading weighed counts lift checkDigit numberOf exists dateFits timeFits daysOfYears dayNumber factorOf same batchOf rulesOf clean fieldsOf cut steps endOf finish within boletoRules detailRules rulesAs typeRules lineRules rulesOfLine sound stepOf add
+unfolding firstBroken leading weighed counts lift checkDigit numberOf exists dateFits timeFits daysOfYears dayNumber dueDays folded factorOf same batchOf rulesOf clean fieldsOf cut steps endOf finish within boletoRules detailRules rulesAs typeRules lineRules rulesOfLine sound stepOf add
 return-file = refl

@@ -49,7 +49,7 @@ abbrev pub fileHeader : Fields
 fileHeader =
     entered FileHeader
     (number 1 85 ∷ number 18 2 ∷ text 19 "12345678000195" ∷ text 33 "CONVENIO 004711" ∷ number 53 101 ∷ text 58 "7" ∷ number 59 4321 ∷ text 71 "0"
-    ∷ text 73 "CLINICA BOA VISTA LTDA" ∷ text 103 "BANCO DO VALE" ∷ number 143 1 ∷ number 144 10022025 ∷ number 152 143000 ∷ number 158 42
+    ∷ text 73 "CLINICA BOA VISTA LTDA" ∷ text 103 "BANCO DO VALE" ∷ number 143 1 ∷ number 144 16112026 ∷ number 152 143000 ∷ number 158 42
     ∷ number 164 103 ∷ [])
 
 abbrev pub batchHeader : Fields
@@ -63,12 +63,12 @@ abbrev pub segmentA : Fields
 segmentA =
     entered SegmentA
     (number 18 18 ∷ number 21 1 ∷ number 24 1234 ∷ text 29 "1" ∷ number 30 56789 ∷ text 42 "5" ∷ text 44 "OXIGENIO DO VALE LTDA"
-    ∷ text 74 "NF 000001" ∷ number 94 10022025 ∷ text 102 "BRL" ∷ number 120 10000 ∷ [])
+    ∷ text 74 "NF 000001" ∷ number 94 16112026 ∷ text 102 "BRL" ∷ number 120 10000 ∷ [])
 
 abbrev pub segmentB : Fields
 segmentB =
     entered SegmentB
-    (number 18 2 ∷ text 19 "23456789000110"
+    (number 18 2 ∷ text 19 "23456789000195"
     ∷ text 33 "RUA DAS PALMEIRAS             00077                              BLUMENAU            89010000SC" ∷ [])
 
 -- bank, numbering, counts and sum are the writer's

@@ -8,7 +8,7 @@ use borrow.Author.Tests.{not-true, not-false}
 use Rattle.calendar.specs.Calendar.{firstYear, exists}
 use Rattle.calendar.specs.Due.{dayNumber}
 use Rattle.calendar.specs.laws.Days.{in-year, years-closed}
-use Rattle.calendar.proofs.Existing.{day-in-month}
+use Rattle.calendar.specs.laws.Existing.{day-in-month}
 use Rattle.calendar.proofs.Date.day_number.Statement.{statement}
 use Rattle.calendar.proofs.Date.day_number.Tie as tie
 

@@ -1,12 +1,11 @@
--- The dates that exist, and the day from which the due factor counts. Assumes nothing.
-use mathlib.Core.Path.{_≡_, refl, sym, _∙_, subst}
+-- The dates that exist: their tests as facts. Assumes nothing.
+use mathlib.Core.Path.{_≡_, sym, _∙_, subst}
 use mathlib.Core.Bool.{Bool, true, _&&_, and-assoc}
 use Prim.Native.Nat.{ℕ, _-_, _≤_}
 use lib.Dec.{T, leb, leb→le}
 use lib.ListN.{getD}
 use Rattle.digits.specs.laws.Tests.{both}
-use Rattle.calendar.specs.Calendar.{date, firstYear, lastYear, months, exists}
-use Rattle.calendar.specs.Due.{daysOfYears, dayNumber}
+use Rattle.calendar.specs.Calendar.{firstYear, lastYear, months, exists}
 use Rattle.calendar.specs.declared.Date.{Date}
 
 -- the tests of the year and the month, which come before that of the day
@@ -30,13 +29,8 @@ in-range d t =
     record { year = within firstYear (d .year) lastYear (ts .0); month = within 1 (d .month) 12 (ts .1) }
 
 -- a date that exists is in range, and its day is one of its month
-pub day-in-month : (d : Date) → exists d ≡ true → InRange d × (d .day ≤ getD (months (d .year)) (d .month - 1) 0)
+pub day-in-month : (d : Date) → exists d ≡ true → InRange d × ((1 ≤ d .day) × (d .day ≤ getD (months (d .year)) (d .month - 1) 0))
 day-in-month d e =
     let most = getD (months (d .year)) (d .month - 1) 0 in
     let ts = both (inRange d) (leb 1 (d .day) && leb (d .day) most) (subst T (sym e ∙ exists-is d) tt) in
-    (in-range d (ts .0), within 1 (d .day) most (ts .1) .1)
-
--- the day from which the due factor counts
-pub base-day : dayNumber (date 7 10 1997) ≡ 280
-unfolding dayNumber exists daysOfYears
-base-day = refl
+    (in-range d (ts .0), within 1 (d .day) most (ts .1))
