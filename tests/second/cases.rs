@@ -27,7 +27,7 @@ const MALFORMED_SEED: u64 = 3;
 const ORDER_SEED: u64 = 4;
 const RECORD_SEED: u64 = 6;
 const RECORD_WRITE_SEED: u64 = 7;
-const LARGE_FILE_SEED: u64 = 8;
+const MADE_ONCE_SEED: u64 = 8;
 const PAIRS_OF_FLAWS_SEED: u64 = 10;
 const GOOD_SCRIPT_SEED: u64 = 11;
 const ROUNDS_OF_PAIRS: usize = 2;
@@ -104,14 +104,14 @@ pub fn writer_streams() -> impl Iterator<Item = Stream> {
     })
 }
 
-/// The streams about files, the one with the large ones early among them.
+/// The streams about files, the one of those made once early among them.
 pub fn file_streams() -> impl Iterator<Item = Stream> {
     let mut seeds = (0..FILE_STREAMS).map(|index| FIRST_FILE_SEED + index);
     let first = seeds.next().into_iter().map(stream_of_files);
-    let large = iter::once_with(stream_of_large_files);
+    let once = iter::once_with(stream_of_files_made_once);
     let pairs = iter::once_with(stream_of_pairs_of_flaws);
     let others = seeds.map(stream_of_files);
-    first.chain(large).chain(pairs).chain(others)
+    first.chain(once).chain(pairs).chain(others)
 }
 
 fn stream_of_files(seed: u64) -> Stream {
@@ -137,9 +137,10 @@ fn stream_of_pairs_of_flaws() -> Stream {
     Stream::shuffled(requests, &mut random)
 }
 
-/// And of the other requests about files that are made once.
-fn stream_of_large_files() -> Stream {
-    let mut random = Random::with_seed(LARGE_FILE_SEED);
+/// Large files, every due date around a turn, and files that chance would
+/// hardly make.
+fn stream_of_files_made_once() -> Stream {
+    let mut random = Random::with_seed(MADE_ONCE_SEED);
     let mut requests = large_file_cases::requests(&mut random);
     requests.extend(due_cases::requests(&mut random));
     requests.extend(file_cases::unlikely_files(&mut random));

@@ -8,8 +8,10 @@ pub type DueDate = [u8; 8];
 
 /// The day of a turn, the one before and the one behind, each with its factor:
 /// the first factor there is, the first of four digits, every day on which the
-/// count goes back to 1000; and the last date of all.
-pub const AROUND_TURNS: [(DueDate, Option<u32>); 31] = [
+/// count goes back to 1000; and the first and the last date of all.
+pub const AROUND_TURNS: [(DueDate, Option<u32>); 33] = [
+    (*b"01011997", None),
+    (*b"06101997", None),
     (*b"07101997", None),
     (*b"08101997", Some(1)),
     (*b"09101997", Some(2)),
@@ -52,7 +54,8 @@ pub fn any_due_date(random: &mut Random) -> DueDate {
     let year = random.between(FIRST_YEAR as usize, LAST_YEAR as usize) as u32;
     let month = random.between(1, MONTHS as usize) as u32;
     let last_day = Calendar::of_the_paper().days_in(month, year);
-    let day = random.between(1, last_day as usize) as u32;
+    let any_day = random.between(1, last_day as usize) as u32;
+    let day = random.pick(&[1, last_day, any_day]);
     due_date(day, month, year)
 }
 

@@ -1,17 +1,17 @@
 //! Due dates and factors that do not belong together.
 
-use crate::due_dates::any_due_date;
+use crate::due_dates::{any_due_date, DueDate};
 use crate::due_factors::{DueFactors, COUNTING_FAULTS, DAYS_OF_A_ROUND};
 use crate::due_factors::{FOUR_DIGITS, LARGEST_FACTOR};
 use crate::good_files::put_factor;
 use crate::places::{DUE, FACTOR};
 use crate::random::Random;
 
-/// Due date or factor, the barcode's check being made right again. Another date
-/// has the same factor where whole rounds lie between the two.
+/// Due date or factor, the barcode's check being made right again.
 pub fn spoil_due_date(random: &mut Random, line: &mut [u8]) {
-    if FACTOR.number(line) != 0 && random.coin() {
-        DUE.put(line, &any_due_date(random));
+    let factor = FACTOR.number(line) as u32;
+    if factor != 0 && random.coin() {
+        DUE.put(line, &any_date_without(random, factor));
         return;
     }
     let mut factors = likely_wrong_factors(DUE.of(line));
@@ -19,13 +19,24 @@ pub fn spoil_due_date(random: &mut Random, line: &mut [u8]) {
     put_factor(line, random.pick(&factors));
 }
 
-/// One more, one that is a round off, and those that mistaken counts give: the
-/// same ones whatever fault the run itself is sown with.
+/// A date some rounds off would have the same factor.
+fn any_date_without(random: &mut Random, factor: u32) -> DueDate {
+    loop {
+        let due = any_due_date(random);
+        if DueFactors::of_the_paper().of(&due) != Some(factor) {
+            return due;
+        }
+    }
+}
+
+/// One more, one that is a round off, the largest, and those that mistaken
+/// counts give: the same ones whatever fault the run itself is sown with.
 pub fn likely_wrong_factors(due: &[u8]) -> Vec<u32> {
     let own = DueFactors::of_the_paper().of(due);
     let near = own.unwrap_or(0);
     let round_less = near.checked_sub(DAYS_OF_A_ROUND);
-    let mut factors = vec![near + 1, round_less.unwrap_or(near + DAYS_OF_A_ROUND)];
+    let round_off = round_less.unwrap_or(near + DAYS_OF_A_ROUND);
+    let mut factors = vec![near + 1, round_off, LARGEST_FACTOR];
     let mistaken = COUNTING_FAULTS.map(|fault| DueFactors::new(Some(fault)).of(due));
     factors.extend(mistaken.into_iter().flatten());
     let cut = factors.into_iter().map(|factor| factor % FOUR_DIGITS);

@@ -198,12 +198,15 @@ fn make_boleto(random: &mut Random, record: &mut [u8]) {
     make_barcode(random, record, nominal);
 }
 
+/// A barcode without a factor goes with whatever due date the record has.
 fn make_barcode(random: &mut Random, record: &mut [u8], nominal: u64) {
-    let due = any_due_date(random);
-    DUE.put(record, &due);
     let factor = match random.below(NO_FACTOR_ONCE_IN) {
         0 => None,
-        _ => DueFactors::of_the_paper().of(&due),
+        _ => {
+            let due = any_due_date(random);
+            DUE.put(record, &due);
+            DueFactors::of_the_paper().of(&due)
+        }
     };
     let fits = nominal <= LARGEST_BARCODE_CENTS;
     let cents = if fits && random.coin() { nominal } else { 0 };

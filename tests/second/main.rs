@@ -1,8 +1,9 @@
-//! The second program: written from document 01 and request 3 of document 02
-//! alone, it asks the payment desk's probe many questions and compares every
-//! reply with its own answer. It also changes files at their guarded places,
-//! feeds large files to the desk's program, and makes plain files. Everywhere
-//! here document 01 is meant with that request in it.
+//! The second program: written from document 01 and request 3 of document 02,
+//! without sight of the payment desk's code, it asks the desk's probe many
+//! questions and compares every reply with its own answer. It also changes
+//! files at their guarded places, feeds large files to the desk's program, and
+//! makes plain files. Everywhere here document 01 is meant with that request
+//! in it.
 //!
 //! Build: `rustc -O --edition 2021 main.rs -o second`
 

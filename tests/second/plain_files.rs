@@ -5,6 +5,7 @@ use std::io::{self, Write};
 
 use crate::calendar::MONTHS;
 use crate::due_dates::{due_date, DueDate};
+use crate::due_factors::LARGEST_FACTOR;
 use crate::file_rules::MOST_PAYMENTS;
 use crate::file_state::BatchKind;
 use crate::good_files::put_factor;
@@ -33,8 +34,6 @@ pub const BOLETO_FORM: &[u8] = b"31";
 const DUE_PAST: DueDate = *b"13112026";
 const DUE_SOON: DueDate = *b"19112026";
 const DUE_LATER: DueDate = *b"15122026";
-/// The largest factor, which last was that of 21 February 2025.
-const FACTOR_OF_THE_LAST_ROUND: u32 = 9_999;
 /// The due dates of the long file: so many years, and in each month the days
 /// that every month has.
 const FIRST_BENCH_YEAR: u64 = 2026;
@@ -182,9 +181,8 @@ pub fn write(out: &mut dyn Write, name: &[String]) -> Result<(), String> {
     let written = match name.as_slice() {
         ["one-payment"] => write_one_payment(out),
         ["boleto"] => write_boletos(out, |_| {}),
-        ["last-round"] => write_boletos(out, |record| {
-            put_factor(record, FACTOR_OF_THE_LAST_ROUND);
-        }),
+        // The factor of 21 February 2025, the last day of the round before.
+        ["last-round"] => write_boletos(out, |record| put_factor(record, LARGEST_FACTOR)),
         ["return"] => write_return(out),
         ["batches"] => write_batches(out),
         [BENCH, payments] => write_bench(out, bench_payments(payments)?),

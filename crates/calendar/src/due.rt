@@ -14,9 +14,9 @@ ghost use Rattle.calendar.specs.Due.{total, daysOfYears, dayNumber, dueD
 // The day number of 7 October 1997, from which the factor counts.
 const FACTOR_BASE: u64 = 280;
 
-// Behind the last factor the count returns to this one, round after round.
 const LAST_FACTOR: u64 = 9999;
 
+// Behind the last factor the count returns to this one, round after round.
 const RETURNS_TO: u64 = 1000;
 
 const ROUND_DAYS: u64 = LAST_FACTOR + 1 - RETURNS_TO;

@@ -1,15 +1,15 @@
 -- The due factor over its rounds: of every count of days, and of all dates that exist. Assumes nothing.
 use mathlib.Core.Path.{_≡_, refl, sym, ap, _∙_}
-use mathlib.Core.Bool.{true}
+use mathlib.Core.Bool.{Bool, true, false, _||_}
 use mathlib.Core.Logic.{_≢_, _⊎_, inl, inr, _↔_}
 use Prim.Native.Nat.{ℕ, _+_, _-_, _*_, _/_, _%_, _<_, _≤_}
 use native.Mathlib.Nat.{add-mul-mod-self-right}
 use native.Mathlib.Decide.{decLe}
 use native.Mathlib.Omega.{arith}
-use borrow.Author.Tests.{le-leb, lt-leb}
-use lib.Dec.{lit≤}
+use borrow.Author.Tests.{eqb-true, le-leb, lt-leb}
+use lib.Dec.{eqb, lit≤}
 use Rattle.calendar.specs.Calendar.{date, exists}
-use Rattle.calendar.specs.Due.{dayNumber, daysOfYears, dueDays, lastFactor, returnsTo, roundDays, folded, factorOf}
+use Rattle.calendar.specs.Due.{dayNumber, daysOfYears, dueDays, lastFactor, returnsTo, roundDays, folded, factorOf, factorFits}
 use Rattle.calendar.specs.declared.Date.{Date}
 use Rattle.calendar.specs.laws.Order.{Before, number-grows, one-number, before-by-number}
 
@@ -19,14 +19,14 @@ use Rattle.calendar.specs.laws.Order.{Before, number-grows, one-number, 
 pub round-is : roundDays ≡ 9000
 round-is = refl
 
--- two counts are whole rounds apart, both from the day on to whose factor the count returns
+-- two counts are whole rounds apart, both from day 1000 on
 pub record RoundsApart (m n : ℕ) : Type 0 where
   pub first-from : returnsTo ≤ m
   pub second-from : returnsTo ≤ n
   pub rounds : ℕ
   pub apart : (n ≡ m + rounds * roundDays) ⊎ (m ≡ n + rounds * roundDays)
 
--- folded from the day on to whose factor the count returns, and not before it
+-- folded from day 1000 on, and not before
 small : (n : ℕ) → n < returnsTo → folded n ≡ n
 unfolding folded
 small n h = rw (le-leb n lastFactor (omega arith))
@@ -113,15 +113,6 @@ first-day : (dayNumber firstDue ≡ 281) × (exists firstDue ≡ true)
 unfolding dayNumber exists daysOfYears
 first-day = (refl, refl)
 
--- every factor is from 1 to the last
-pub factor-between : (d : Date) → factorOf d ≢ 0 → (1 ≤ factorOf d) × (factorOf d ≤ lastFactor)
-unfolding factorOf
-factor-between d some = go (decLe 1 (dueDays d))
-  where
-    go : Dec (1 ≤ dueDays d) → (1 ≤ factorOf d) × (factorOf d ≤ lastFactor)
-    go (yes h) = folded-between (dueDays d) h
-    go (no h) = absurd (some (folded-none (dueDays d) .1 (omega arith)))
-
 -- a date has none exactly before 8 October 1997
 pub factor-none : (d : Date) → exists d ≡ true → factorOf d ≡ 0 ↔ Before d firstDue
 unfolding factorOf dueDays
@@ -130,22 +121,40 @@ factor-none d p = (
   λ before. folded-none (dueDays d) .1 (omega (arith, number-grows d firstDue p (first-day .1) before, base-day, first-day)),
 )
 
--- two dates, one of which has a factor, have one factor exactly if they are one or whole rounds apart
-pub factor-same : (d e : Date) → exists d ≡ true → exists e ≡ true → factorOf d ≢ 0
-    → factorOf d ≡ factorOf e ↔ (d ≡ e) ⊎ RoundsApart (dueDays d) (dueDays e)
+-- such a date goes with factor 0 only
+pub undated-only : (factor : ℕ) (d : Date) → exists d ≡ true → Before d firstDue → factorFits factor d ≡ true → factor ≡ 0
+undated-only factor d p before fits = eqb-true factor 0 (once (eqb factor 0) (rw (factor-none d p .1 before) at fits))
+  where
+    once : (b : Bool) → (b || b) ≡ true → b ≡ true
+    once true e = refl
+    once false e = e
+
+-- every other date has a factor from 1 to the last
+pub factor-between : (d : Date) → exists d ≡ true → (Before d firstDue → ⊥) → (1 ≤ factorOf d) × (factorOf d ≤ lastFactor)
+unfolding factorOf
+factor-between d p on = go (decLe 1 (dueDays d))
+  where
+    go : Dec (1 ≤ dueDays d) → (1 ≤ factorOf d) × (factorOf d ≤ lastFactor)
+    go (yes h) = folded-between (dueDays d) h
+    go (no h) = absurd (on (factor-none d p .0 (folded-none (dueDays d) .1 (omega arith))))
+
+-- dates whole rounds apart have the same
+pub factor-again : (d e : Date) → RoundsApart (dueDays d) (dueDays e) → factorOf d ≡ factorOf e
+unfolding factorOf
+factor-again d e r = folded-same (dueDays d) (dueDays e) .1 (inr r)
+
+-- two dates of one factor are one, or whole rounds apart
+pub factor-apart : (d e : Date) → exists d ≡ true → exists e ≡ true → factorOf d ≢ 0 → factorOf d ≡ factorOf e
+    → (d ≡ e) ⊎ RoundsApart (dueDays d) (dueDays e)
 unfolding factorOf dueDays
-factor-same d e p q some = (λ same. apart (folded-same (dueDays d) (dueDays e) .0 same), same)
+factor-apart d e p q some same = go (folded-same (dueDays d) (dueDays e) .0 same)
   where
     some-day : dueDays d ≢ 0
     some-day none = some (folded-none (dueDays d) .1 none)
 
-    apart : (dueDays d ≡ dueDays e) ⊎ RoundsApart (dueDays d) (dueDays e) → (d ≡ e) ⊎ RoundsApart (dueDays d) (dueDays e)
-    apart (inl days) = inl (one-number d e p q (omega (arith, days, some-day)))
-    apart (inr r) = inr r
-
-    same : (d ≡ e) ⊎ RoundsApart (dueDays d) (dueDays e) → factorOf d ≡ factorOf e
-    same (inl one) = ap factorOf one
-    same (inr r) = folded-same (dueDays d) (dueDays e) .1 (inr r)
+    go : (dueDays d ≡ dueDays e) ⊎ RoundsApart (dueDays d) (dueDays e) → (d ≡ e) ⊎ RoundsApart (dueDays d) (dueDays e)
+    go (inl days) = inl (one-number d e p q (omega (arith, days, some-day)))
+    go (inr r) = inr r
 
 -- the first day of the second round is one round behind 3 July 2000
 pub one-round : RoundsApart (dueDays (date 3 7 2000)) (dueDays (date 22 2 2025))
