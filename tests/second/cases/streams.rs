@@ -1,0 +1,165 @@
+//! How the requests are made: one long stream about digit strings and records
+//! with malformed requests among them, streams about files, and short streams
+//! that are cut in the middle of a request.
+
+use std::iter;
+
+use crate::asking::probe::{Request, HEADER_BYTES, OP_AT};
+use crate::cases::file_cases::{self, FileCases};
+use crate::cases::script_cases::ScriptCases;
+use crate::cases::{digit_cases, due_cases, large_file_cases, line_call_cases};
+use crate::cases::{record_cases, record_write_cases};
+use crate::damage::malformed_requests::{changed, malformed_requests, with_bait};
+use crate::making::good_barcodes;
+use crate::making::good_requests::good_requests;
+use crate::making::random::Random;
+
+const BARCODE_SEED: u64 = 1;
+const DIGIT_STRING_SEED: u64 = 2;
+const ORDER_SEED: u64 = 4;
+const RECORD_SEED: u64 = 6;
+const RECORD_WRITE_SEED: u64 = 7;
+const MADE_ONCE_SEED: u64 = 8;
+const PAIRS_OF_FLAWS_SEED: u64 = 10;
+const ROUNDS_OF_PAIRS: usize = 2;
+/// The first of the streams about files has this seed, the others the next ones.
+const FIRST_FILE_SEED: u64 = 100;
+const FILE_STREAMS: u64 = 16;
+/// And so for the streams about the writer.
+const FIRST_WRITER_SEED: u64 = 200;
+const WRITER_STREAMS: u64 = 9;
+/// How often each good request stands among those about files.
+const GOOD_REQUESTS_AMONG_FILES: usize = 10;
+
+/// Whole requests, and the bytes of one that is cut short (often none).
+pub struct Stream {
+    pub requests: Vec<Request>,
+    pub cut_request: Vec<u8>,
+}
+
+impl Stream {
+    /// Good and malformed, large and small requests alternate, so that nothing
+    /// kept from one call goes unseen in the next.
+    fn shuffled(mut requests: Vec<Request>, random: &mut Random) -> Stream {
+        random.shuffle(&mut requests);
+        Stream {
+            requests,
+            cut_request: Vec::new(),
+        }
+    }
+}
+
+pub fn accepted_barcodes() -> Vec<Vec<u8>> {
+    good_barcodes::accepted_barcodes(&mut Random::with_seed(BARCODE_SEED))
+}
+
+/// All streams, each made only when it is wanted: together they are large, and
+/// a seeded fault is mostly caught in the first about its topic.
+pub fn streams() -> impl Iterator<Item = Stream> {
+    let cut = iter::once_with(cut_streams).flatten();
+    let whole = string_streams().chain(file_streams());
+    whole.chain(writer_streams()).chain(cut)
+}
+
+/// The one stream about digit strings and records alone.
+pub fn string_streams() -> impl Iterator<Item = Stream> {
+    iter::once_with(|| stream_of_strings(&accepted_barcodes()))
+}
+
+/// The streams about the writer, the first of them with the long scripts.
+pub fn writer_streams() -> impl Iterator<Item = Stream> {
+    (0..WRITER_STREAMS).map(|index| {
+        let mut random = Random::with_seed(FIRST_WRITER_SEED + index);
+        let mut cases = ScriptCases::new(&mut random);
+        if index == 0 {
+            cases.ask_long();
+        }
+        cases.ask_all();
+        let mut requests = cases.requests;
+        requests.extend(good_requests());
+        Stream::shuffled(requests, &mut random)
+    })
+}
+
+/// The streams about files, the one of those made once early among them.
+pub fn file_streams() -> impl Iterator<Item = Stream> {
+    let mut seeds = (0..FILE_STREAMS).map(|index| FIRST_FILE_SEED + index);
+    let first = seeds.next().into_iter().map(stream_of_files);
+    let once = iter::once_with(stream_of_files_made_once);
+    let pairs = iter::once_with(stream_of_pairs_of_flaws);
+    let others = seeds.map(stream_of_files);
+    first.chain(once).chain(pairs).chain(others)
+}
+
+fn stream_of_files(seed: u64) -> Stream {
+    let mut random = Random::with_seed(seed);
+    let mut cases = FileCases::new(&mut random);
+    cases.ask_files();
+    cases.ask_line_calls();
+    let mut requests = cases.requests;
+    for _ in 0..GOOD_REQUESTS_AMONG_FILES {
+        requests.extend(good_requests());
+    }
+    Stream::shuffled(requests, &mut random)
+}
+
+/// Each pair more than once, since a flaw can be put in various ways.
+fn stream_of_pairs_of_flaws() -> Stream {
+    let mut random = Random::with_seed(PAIRS_OF_FLAWS_SEED);
+    let mut cases = FileCases::new(&mut random);
+    for _ in 0..ROUNDS_OF_PAIRS {
+        cases.ask_pairs_of_flaws();
+    }
+    let requests = cases.requests;
+    Stream::shuffled(requests, &mut random)
+}
+
+/// Large files, every due date around a turn, and files that chance would
+/// hardly make.
+fn stream_of_files_made_once() -> Stream {
+    let mut random = Random::with_seed(MADE_ONCE_SEED);
+    let mut requests = large_file_cases::requests(&mut random);
+    requests.extend(due_cases::requests(&mut random));
+    requests.extend(file_cases::unlikely_files(&mut random));
+    requests.extend(line_call_cases::unlikely_calls(&mut random));
+    Stream::shuffled(requests, &mut random)
+}
+
+fn stream_of_strings(barcodes: &[Vec<u8>]) -> Stream {
+    let mut random = Random::with_seed(DIGIT_STRING_SEED);
+    let mut requests = digit_cases::requests(&mut random, barcodes);
+    requests.extend(record_cases::requests(&mut Random::with_seed(RECORD_SEED)));
+    let mut random = Random::with_seed(RECORD_WRITE_SEED);
+    requests.extend(record_write_cases::requests(&mut random));
+    requests.extend(malformed_requests());
+    Stream::shuffled(requests, &mut Random::with_seed(ORDER_SEED))
+}
+
+/// Headers cut at each length (0 is a stream that ends as it should), and
+/// payloads cut short, of good requests and of a malformed one.
+fn cut_streams() -> Vec<Stream> {
+    let good = good_requests();
+    let barcode = &good[0];
+    let unknown_op = with_bait(changed(&barcode.header, OP_AT, b'?'));
+    let mut streams = Vec::new();
+    for kept in 0..HEADER_BYTES {
+        streams.push(stream_cut_in(barcode, kept));
+    }
+    for request in good.iter().chain([&unknown_op]) {
+        let whole = HEADER_BYTES + request.payload.len();
+        for kept in [HEADER_BYTES, HEADER_BYTES + 1, whole - 1] {
+            streams.push(stream_cut_in(request, kept));
+        }
+    }
+    streams
+}
+
+fn stream_cut_in(request: &Request, kept: usize) -> Stream {
+    let mut cut_request = Vec::new();
+    request.append_to(&mut cut_request);
+    cut_request.truncate(kept);
+    Stream {
+        requests: good_requests().to_vec(),
+        cut_request,
+    }
+}

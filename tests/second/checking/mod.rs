@@ -1,0 +1,19 @@
+//! Tests of the tests. Claims of the papers are held against the models of
+//! `paper`; what a run has to show is counted, so that a sort of case that no
+//! longer comes up is noticed; and every fault of `sown` has to be caught.
+
+pub mod call_sights;
+pub mod digit_claims;
+pub mod due_claims;
+pub mod due_tally;
+pub mod fault_hunt;
+pub mod file_claims;
+pub mod record_claims;
+pub mod sample_sights;
+pub mod script_demands;
+pub mod script_sights;
+pub mod script_tally;
+pub mod sown_mistakes;
+pub mod stand_in;
+pub mod tally;
+pub mod writer_claims;

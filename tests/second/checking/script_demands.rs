@@ -1,0 +1,238 @@
+//! What the scripts of a run have to show, so that a sort of script which no
+//! longer comes up is noticed.
+
+use crate::asking::writer_script::{MISFITS, NUMBERS_OF_A_RECORD};
+use crate::cases::script_kind_cases::POSITIONS;
+use crate::cases::script_turn_cases::{Standing, STANDINGS};
+use crate::checking::script_sights::{code, wrong_kind, Class, Distance, Sight, MOST_BESIDE};
+use crate::making::good_calls::{given_numbers, given_texts, takes_number};
+use crate::paper::file_state::{BatchKind, BATCH_KINDS};
+use crate::paper::layout_table::{self as table, Entry};
+use crate::paper::places::{AMOUNT_OF_J, BARCODE_CENTS, BARCODE_CHECK, FACTOR};
+use crate::paper::record_kinds::{Direction, RecordKind, DIRECTIONS, RECORD_KINDS};
+use crate::paper::writer_calls::{CallKind, CALL_KINDS};
+
+const MOST_LINES: usize = 7;
+const NUMBERS_BEFORE_GOING_ON: [u32; 13] = [4, 8, 11, 12, 13, 14, 15, 16, 17, 18, 19, 20, 50];
+
+/// All that has to be seen in a run.
+pub fn demanded() -> Vec<Sight> {
+    let mut sights = Vec::new();
+    for kind in RECORD_KINDS {
+        sights.extend(faults_of(kind));
+        sights.extend(ignored_in(kind));
+        sights.extend((0..NUMBERS_OF_A_RECORD).map(|index| {
+            let kind = code(kind);
+            Sight::LargestNumber { kind, index }
+        }));
+    }
+    sights.extend(boleto_faults());
+    sights.extend(calls_out_of_turn());
+    sights.extend(wrong_kinds());
+    sights.extend(two_faults());
+    sights.extend(rooms());
+    sights.extend(closed_files());
+    let going_on = NUMBERS_BEFORE_GOING_ON.into_iter().chain([51]);
+    sights.extend(going_on.map(|number| Sight::AcceptedBehind { number }));
+    sights.extend(MISFITS.map(|misfit| Sight::NoScript { misfit }));
+    sights.push(Sight::NoCall);
+    sights
+}
+
+/// Each field that a caller can fill wrongly.
+fn faults_of(kind: RecordKind) -> Vec<Sight> {
+    let mut sights = Vec::new();
+    for (index, field) in given_numbers(kind) {
+        let number = match field.entry {
+            Entry::OneOf(_) | Entry::Service => Some(14),
+            Entry::Date | Entry::Time => Some(15),
+            // A wrong form is named at the service.
+            _ => None,
+        };
+        let (kind, place) = (code(kind), field.first);
+        sights.push(Sight::TooWide { kind, index });
+        if field.entry == Entry::Number {
+            sights.push(Sight::AllNines { kind, index });
+        }
+        sights.extend(number.map(|number| Sight::Fault {
+            number,
+            kind,
+            place,
+        }));
+    }
+    for field in given_texts(kind) {
+        let (kind, place) = (code(kind), field.first);
+        sights.push(Sight::WrongByte { kind, place });
+        let number = match field.entry {
+            Entry::Text => Some(13),
+            Entry::Identifier | Entry::Barcode => Some(8),
+            Entry::BlankInRemittance => Some(12),
+            _ => None,
+        };
+        sights.extend(number.map(|number| Sight::Fault {
+            number,
+            kind,
+            place,
+        }));
+    }
+    sights
+}
+
+/// The barcode's currency, and the rules over several fields.
+fn boleto_faults() -> Vec<Sight> {
+    let faults = [
+        (14, BARCODE_CHECK.first - 1),
+        (16, BARCODE_CHECK.first),
+        (17, FACTOR.first),
+        (18, BARCODE_CENTS.first),
+        (19, AMOUNT_OF_J.first),
+    ];
+    let kind = code(RecordKind::J);
+    let sights = faults.map(|(number, place)| Sight::Fault {
+        number,
+        kind,
+        place,
+    });
+    sights.to_vec()
+}
+
+fn ignored_in(kind: RecordKind) -> Vec<Sight> {
+    let mut sights = Vec::new();
+    for (index, field) in table::fields(kind).into_iter().enumerate() {
+        let (number_counts, kind) = (takes_number(kind, field), code(kind));
+        let place = field.first;
+        if field.is_number() && !number_counts {
+            sights.push(Sight::OtherNumberIgnored { kind, index });
+            sights.push(Sight::WideNumberIgnored { kind, index });
+        }
+        if field.is_number() || field.fixed_content().is_some() {
+            sights.push(Sight::WrongByteIgnored { kind, place });
+        }
+    }
+    sights
+}
+
+fn calls_out_of_turn() -> Vec<Sight> {
+    let mut sights = Vec::new();
+    for standing in STANDINGS {
+        for kind in CALL_KINDS {
+            let in_turn = matches!(
+                (standing, kind),
+                (Standing::NoFile, CallKind::OpenFile)
+                    | (Standing::NoBatch, CallKind::OpenBatch)
+                    | (Standing::EmptyBatch, CallKind::Payment)
+                    | (Standing::Batch, CallKind::Payment | CallKind::CloseBatch)
+                    | (
+                        Standing::BetweenBatches,
+                        CallKind::OpenBatch | CallKind::CloseFile
+                    )
+            );
+            let call = char::from(kind.code());
+            if !in_turn {
+                sights.push(Sight::OutOfTurn { standing, call });
+            }
+        }
+    }
+    sights
+}
+
+fn wrong_kinds() -> Vec<Sight> {
+    let mut sights = Vec::new();
+    for direction in DIRECTIONS {
+        for batch in BATCH_KINDS {
+            for position in 0..POSITIONS {
+                let others = RECORD_KINDS.into_iter();
+                let others = others.filter(|kind| !is_right(direction, batch, position, *kind));
+                sights.extend(others.map(|kind| wrong_kind(direction, batch, position, kind)));
+            }
+        }
+    }
+    sights
+}
+
+fn is_right(direction: Direction, batch: BatchKind, position: usize, kind: RecordKind) -> bool {
+    let (first, second) = batch.payment_kinds();
+    match position {
+        0 => kind == first,
+        1 => kind == second,
+        _ => kind == RecordKind::Z && direction == Direction::Return,
+    }
+}
+
+fn two_faults() -> Vec<Sight> {
+    let of_a_call = [
+        (Class::Turn, Class::Limit),
+        (Class::Turn, Class::Byte),
+        (Class::Turn, Class::Field),
+        (Class::Turn, Class::Room),
+        (Class::Limit, Class::Byte),
+        (Class::Limit, Class::Field),
+        (Class::Limit, Class::Room),
+        (Class::Byte, Class::Room),
+        (Class::Kind, Class::Room),
+        (Class::Field, Class::Room),
+        (Class::Boleto, Class::Room),
+    ];
+    let of_a_record = [
+        (Class::Byte, Class::Kind),
+        (Class::Byte, Class::Field),
+        (Class::Byte, Class::Boleto),
+        (Class::Kind, Class::Field),
+        (Class::Field, Class::Field),
+        (Class::Field, Class::Boleto),
+        (Class::Boleto, Class::Boleto),
+    ];
+    let firsts = [Class::Byte, Class::Kind, Class::Field, Class::Boleto];
+    let of_two = firsts.iter().flat_map(|first| {
+        let seconds = [Class::Byte, Class::Kind, Class::Field];
+        seconds.map(|second| (*first, second))
+    });
+    let with = |distance| {
+        move |(first, second)| Sight::TwoFaults {
+            first,
+            second,
+            distance,
+        }
+    };
+    let of_a_call = of_a_call.into_iter().map(with(Distance::Call));
+    let of_a_record = of_a_record.into_iter().map(with(Distance::OneRecord));
+    let of_two = of_two.map(with(Distance::TwoRecords));
+    of_a_call.chain(of_a_record).chain(of_two).collect()
+}
+
+fn rooms() -> Vec<Sight> {
+    let mut sights = vec![Sight::LentMoreThanAll];
+    for bytes in -MOST_BESIDE..=MOST_BESIDE {
+        for (call, records) in [('O', 1), ('L', 1), ('P', 2), ('P', 3), ('C', 1), ('E', 1)] {
+            sights.push(Sight::LentBeside {
+                call,
+                records,
+                bytes,
+            });
+        }
+        let lines = (0..=MOST_LINES).filter(|lines| *lines > 0 || bytes >= 0);
+        sights.extend(lines.map(|lines| Sight::RoomBeside { lines, bytes }));
+    }
+    for call in ['L', 'P', 'C', 'E'] {
+        sights.push(Sight::LentLessThanWritten { call });
+        sights.push(Sight::Overwritten { call });
+    }
+    sights
+}
+
+fn closed_files() -> Vec<Sight> {
+    let mut sights = Vec::new();
+    for direction in DIRECTIONS {
+        let direction = char::from(direction.code());
+        for (credits, boletos) in [(true, false), (false, true), (true, true)] {
+            sights.push(Sight::Closed {
+                direction,
+                credits,
+                boletos,
+            });
+        }
+    }
+    sights.extend([true, false].map(|boletos| Sight::ClosedWithZ { boletos }));
+    sights.extend([1, 2, 3, 70].map(|batches| Sight::ClosedWithBatches { batches }));
+    sights
+}

@@ -1,0 +1,163 @@
+//! Counts how often each answer was seen, so that an answer no case led to is
+//! noticed.
+
+use std::collections::BTreeMap;
+use std::fmt;
+
+use crate::asking::probe::{Call, Op, Request};
+use crate::asking::replies::MALFORMED;
+use crate::checking::due_tally::DueTally;
+use crate::checking::script_tally::ScriptTally;
+use crate::paper::answers::{Answer, Verdict};
+
+/// One column for each op, and one for all that name no op.
+const COLUMNS: [&str; 8] = ["B", "D", "C", "W", "F", "L", "P", "other"];
+const NO_OP: &str = COLUMNS[7];
+const REQUESTS: &str = "requests";
+const ACCEPTED: &str = "OK";
+const MALFORMED_REQUEST: &str = "malformed";
+const FIELD_CHECK: u32 = 42;
+
+/// Each answer with the columns in which it can occur. Reading a file can give
+/// every number from 1 to 23, in a whole file and in single-line calls. No
+/// request is long enough for the writer to give 23 or 25.
+const ANSWERS: [(&str, &[&str]); 34] = [
+    (ACCEPTED, &["B", "D", "C", "W", "F", "L", "P"]),
+    ("1", &["C", "F", "L"]),
+    ("2", &["F", "L"]),
+    ("3", &["F", "L"]),
+    ("4", &["C", "W", "F", "L", "P"]),
+    ("5", &["F", "L"]),
+    ("6", &["C", "F", "L"]),
+    ("7", &["F", "L"]),
+    ("8", &["C", "W", "F", "L", "P"]),
+    ("9", &["F", "L"]),
+    ("10", &["F", "L"]),
+    ("11", &["C", "F", "L", "P"]),
+    ("12", &["C", "W", "F", "L", "P"]),
+    ("13", &["C", "W", "F", "L", "P"]),
+    ("14", &["C", "W", "F", "L", "P"]),
+    ("15", &["C", "W", "F", "L", "P"]),
+    ("16", &["F", "L", "P"]),
+    ("17", &["F", "L", "P"]),
+    ("18", &["F", "L", "P"]),
+    ("19", &["F", "L", "P"]),
+    ("20", &["F", "L", "P"]),
+    ("21", &["F", "L"]),
+    ("22", &["F", "L"]),
+    ("23", &["F", "L"]),
+    ("40", &["B", "D"]),
+    ("41", &["B", "D"]),
+    ("42 at 10", &["D"]),
+    ("42 at 21", &["D"]),
+    ("42 at 32", &["D"]),
+    ("43", &["B", "D"]),
+    ("44", &["B", "D"]),
+    ("50", &["B", "D", "W", "P"]),
+    ("51", &["P"]),
+    (MALFORMED_REQUEST, &COLUMNS),
+];
+
+#[derive(Default)]
+pub struct Tally {
+    /// By answer and column. A request of single-line calls has several answers.
+    seen: BTreeMap<(String, &'static str), usize>,
+    requests: BTreeMap<&'static str, usize>,
+    dues: DueTally,
+    scripts: ScriptTally,
+}
+
+impl Tally {
+    pub fn count(&mut self, request: &Request, answer: &Answer) {
+        let column = column(request);
+        *self.requests.entry(column).or_default() += 1;
+        for line in &answer.lines {
+            let key = (answer_name(line.verdict), column);
+            *self.seen.entry(key).or_default() += 1;
+        }
+        match request.call() {
+            Some(Call::CheckFile) => self.dues.count(&request.payload, answer),
+            Some(Call::WriteFile { room }) => self.scripts.count(&request.script(), room),
+            _ => {}
+        }
+    }
+
+    pub fn requests(&self) -> usize {
+        self.requests.values().sum()
+    }
+
+    fn times(&self, answer: &str, column: &'static str) -> usize {
+        let key = (answer.to_string(), column);
+        self.seen.get(&key).copied().unwrap_or(0)
+    }
+
+    /// Answers that can occur and were never seen, and seen ones the table lacks.
+    pub fn gaps(&self) -> Vec<String> {
+        let mut gaps = Vec::new();
+        let mut in_table = 0;
+        for (answer, columns) in ANSWERS {
+            for column in columns {
+                let times = self.times(answer, column);
+                in_table += times;
+                if times == 0 {
+                    gaps.push(format!("answer {answer} was never seen for op {column}"));
+                }
+            }
+        }
+        if in_table != self.seen.values().sum() {
+            gaps.push("some answers have no place in the table".to_string());
+        }
+        gaps.extend(self.dues.gaps());
+        gaps.extend(self.scripts.gaps());
+        gaps
+    }
+}
+
+fn answer_name(verdict: Verdict) -> String {
+    match verdict {
+        Verdict::Accepted => ACCEPTED.to_string(),
+        Verdict::Refused {
+            number: MALFORMED, ..
+        } => MALFORMED_REQUEST.to_string(),
+        Verdict::Refused {
+            number: FIELD_CHECK,
+            place,
+            ..
+        } => format!("{FIELD_CHECK} at {place}"),
+        Verdict::Refused { number, .. } => number.to_string(),
+    }
+}
+
+fn column(request: &Request) -> &'static str {
+    let op = Op::from_code(request.op_code());
+    let mut columns = COLUMNS.into_iter();
+    let named = op.and_then(|op| columns.find(|column| column.as_bytes() == [op.code()]));
+    named.unwrap_or(NO_OP)
+}
+
+impl fmt::Display for Tally {
+    fn fmt(&self, out: &mut fmt::Formatter) -> fmt::Result {
+        write!(out, "{:<10}", "answer")?;
+        for column in COLUMNS {
+            write!(out, "{column:>8}")?;
+        }
+        for (answer, columns) in ANSWERS {
+            write!(out, "\n{answer:<10}")?;
+            for column in COLUMNS {
+                let can_occur = columns.contains(&column);
+                let times = if can_occur {
+                    self.times(answer, column).to_string()
+                } else {
+                    "-".to_string()
+                };
+                write!(out, "{times:>8}")?;
+            }
+        }
+        write!(out, "\n{REQUESTS:<10}")?;
+        for column in COLUMNS {
+            let requests = self.requests.get(column).copied().unwrap_or(0);
+            write!(out, "{requests:>8}")?;
+        }
+        write!(out, "\n{}\n{}", self.dues.summary(), self.scripts.summary())
+    }
+}

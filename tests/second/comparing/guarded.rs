@@ -1,0 +1,128 @@
+//! Holds the program to what document 01 claims of guarded places: in accepted
+//! files and digit lines, one byte changed there is refused.
+
+use crate::cases::streams;
+use crate::checking::sample_sights;
+use crate::checking::sown_mistakes::SownMistake;
+use crate::comparing::trials::first_failure;
+use crate::damage::changes::{Demand, Trials};
+use crate::damage::file_trials;
+use crate::damage::guarded_digits;
+use crate::damage::other_bytes::BYTES_TRIED;
+use crate::making::good_barcodes::few_of_each_check;
+use crate::making::guarded_samples::{samples, Sample};
+use crate::making::random::Random;
+use crate::paper::places::{part, Part};
+use crate::paper::record_kinds::RecordKind;
+
+const SEED: u64 = 13;
+/// One in the list of places, and two each in the demands on files and lines.
+const SOWN_MISTAKES: usize = 5;
+/// The digits of J that only the general check looks at.
+const FREE_DIGITS: Part = part(37, 61);
+
+pub fn check(command: &[String]) -> Result<(), String> {
+    let samples = samples();
+    let unseen = sample_sights::unseen(&samples);
+    if !unseen.is_empty() {
+        return Err(format!("no sample shows: {}", unseen.join(", ")));
+    }
+    let random = &mut Random::with_seed(SEED);
+    let made = samples.iter();
+    let files: Vec<Trials> = made.map(|s| file_trials::trials_of(random, s)).collect();
+    let digit_lines = trials_of_digit_lines();
+    // The files one by one: all requests together are too many to be held.
+    for file in files.chunks(1) {
+        hold(command, file)?;
+    }
+    hold(command, &digit_lines)?;
+    let sown = sown_mistakes(random, &samples[0], &files[0], &digit_lines);
+    if sown.len() != SOWN_MISTAKES {
+        return Err("a mistake could not be sown".to_string());
+    }
+    for mistake in &sown {
+        mistake.must_be_found(command)?;
+    }
+    report(&samples, &files, &digit_lines)?;
+    println!("mistakes sown in these demands, all found: {SOWN_MISTAKES}");
+    Ok(())
+}
+
+fn trials_of_digit_lines() -> Vec<Trials> {
+    let barcodes = streams::accepted_barcodes();
+    let few = few_of_each_check(&barcodes).into_iter();
+    few.map(|barcode| guarded_digits::trials_of(barcode))
+        .collect()
+}
+
+fn hold(command: &[String], trials: &[Trials]) -> Result<(), String> {
+    match first_failure(command, trials)? {
+        Some(failure) => Err(failure.to_string()),
+        None => Ok(()),
+    }
+}
+
+/// In the list of places, and in each kind of demand on files and digit lines.
+fn sown_mistakes(
+    random: &mut Random,
+    sample: &Sample,
+    file: &Trials,
+    digit_lines: &[Trials],
+) -> Vec<SownMistake> {
+    let mut sown = vec![SownMistake::in_the_list(random, sample)];
+    for demand in [Demand::Refusal, Demand::Acceptance] {
+        let mut lines = digit_lines.iter();
+        let in_line = lines.find_map(|line| SownMistake::in_a_demand(line, demand));
+        sown.extend(SownMistake::in_a_demand(file, demand));
+        sown.extend(in_line);
+    }
+    sown
+}
+
+fn report(samples: &[Sample], files: &[Trials], digit_lines: &[Trials]) -> Result<(), String> {
+    let lines: usize = samples.iter().map(|sample| sample.file.lines.len()).sum();
+    let weak = accepted_free_digits(samples, files);
+    println!("samples, all accepted: {}, of {lines} lines", samples.len());
+    let (places, refused, accepted) = counts(files);
+    println!("guarded places of samples, each with {BYTES_TRIED} other bytes: {places}");
+    println!("changed bytes at guarded places, all refused: {refused}");
+    println!("changed bytes elsewhere, all accepted with the same totals: {accepted}");
+    println!("of these, free digits of a barcode with general check 1: {weak}");
+    let (places, refused, kept) = counts(digit_lines);
+    println!(
+        "digit lines, all accepted: {}, with {places} guarded places",
+        digit_lines.len()
+    );
+    println!("changed digits at guarded places, all refused: {refused}");
+    println!("changed digits behind a general check 1, all accepted: {kept}");
+    // Without such changes nothing would show why the claim goes no further.
+    if accepted == 0 || weak == 0 || kept == 0 {
+        return Err("no change at an unguarded place was tried".to_string());
+    }
+    Ok(())
+}
+
+/// Guarded places, changes refused and changes accepted.
+fn counts(all: &[Trials]) -> (usize, usize, usize) {
+    let places = all.iter().map(|trials| trials.places_with(Demand::Refusal));
+    let refused = all
+        .iter()
+        .map(|trials| trials.changes_with(Demand::Refusal).count());
+    let accepted = all
+        .iter()
+        .map(|trials| trials.changes_with(Demand::Acceptance).count());
+    (places.sum(), refused.sum(), accepted.sum())
+}
+
+fn accepted_free_digits(samples: &[Sample], files: &[Trials]) -> usize {
+    let pairs = samples.iter().zip(files);
+    let counts = pairs.map(|(sample, trials)| {
+        let accepted = trials.changes_with(Demand::Acceptance);
+        let in_free_digits = accepted.filter(|change| {
+            let kind = sample.file.lines[change.line - 1].kind;
+            kind == RecordKind::J && FREE_DIGITS.places().contains(&change.place)
+        });
+        in_free_digits.count()
+    });
+    counts.sum()
+}

@@ -1,0 +1,273 @@
+//! Files that a person can read, made by name: examples for the desk, and a
+//! long one to measure speed with. They are the same in every run.
+
+use std::io::{self, Write};
+
+use crate::making::due_dates::{due_date, DueDate};
+use crate::making::good_files::put_factor;
+use crate::making::numbering::Numbering;
+use crate::making::plain_records::{self, Bill, BANK, PAYEES};
+use crate::paper::calendar::MONTHS;
+use crate::paper::due_factors::LARGEST_FACTOR;
+use crate::paper::file_state::BatchKind;
+use crate::paper::lines::MOST_PAYMENTS;
+use crate::paper::record_kinds::{Direction, RecordKind};
+
+/// Names of the files, as they are asked for.
+pub const NAMES: [&str; 6] = [
+    "one-payment",
+    "boleto",
+    "last-round",
+    "return",
+    "batches",
+    "bench N",
+];
+const BENCH: &str = "bench";
+/// Two records each, and enough left of 999,999 for the ends of all batches.
+const MOST_BENCH_PAYMENTS: u64 = 499_900;
+
+/// The amount of the payment in the paper's own example.
+pub const HUNDRED: u64 = 10_000;
+pub const CREDIT_FORM: &[u8] = b"41";
+pub const BOLETO_FORM: &[u8] = b"31";
+/// Due three days before the day these files are made, and later.
+const DUE_PAST: DueDate = *b"13112026";
+const DUE_SOON: DueDate = *b"19112026";
+const DUE_LATER: DueDate = *b"15122026";
+/// The due dates of the long file: so many years, and in each month the days
+/// that every month has.
+const FIRST_BENCH_YEAR: u64 = 2026;
+const BENCH_YEARS: u64 = 20;
+const BENCH_MONTHS: u64 = MONTHS as u64;
+const BENCH_DAYS: u64 = 28;
+
+/// A file that is written line by line and never held as a whole.
+pub struct PlainFile<'a> {
+    out: &'a mut dyn Write,
+    direction: Direction,
+    numbering: Numbering,
+    documents: u64,
+}
+
+impl PlainFile<'_> {
+    /// Writes the file header.
+    pub fn begin(out: &mut dyn Write, direction: Direction) -> io::Result<PlainFile<'_>> {
+        let mut file = PlainFile {
+            out,
+            direction,
+            numbering: Numbering::of_bank(BANK),
+            documents: 0,
+        };
+        file.add(
+            RecordKind::FileHeader,
+            plain_records::file_header(direction),
+        )?;
+        Ok(file)
+    }
+
+    pub fn add(&mut self, kind: RecordKind, record: Vec<u8>) -> io::Result<()> {
+        self.add_changed(kind, record, |_| {})
+    }
+
+    /// Adds a line that is changed after its numbers were filled in.
+    pub fn add_changed(
+        &mut self,
+        kind: RecordKind,
+        record: Vec<u8>,
+        change: impl Fn(&mut [u8]),
+    ) -> io::Result<()> {
+        let mut line = self.numbering.next_line(kind, record);
+        change(&mut line);
+        self.out.write_all(&line)
+    }
+
+    pub fn open_batch(&mut self, kind: BatchKind) -> io::Result<()> {
+        let form = match kind {
+            BatchKind::Credit => CREDIT_FORM,
+            BatchKind::Boleto => BOLETO_FORM,
+        };
+        let record = plain_records::batch_header(self.direction, kind, form);
+        self.add(RecordKind::BatchHeader, record)
+    }
+
+    pub fn credit(&mut self, payee: usize, cents: u64) -> io::Result<()> {
+        self.documents += 1;
+        let records = plain_records::credit_records(&PAYEES[payee], self.documents, cents);
+        self.add_payment(records)
+    }
+
+    pub fn boleto(&mut self, payee: usize, bill: Bill) -> io::Result<()> {
+        self.changed_boleto(payee, bill, |_| {})
+    }
+
+    /// Adds a boleto whose J is changed.
+    fn changed_boleto(
+        &mut self,
+        payee: usize,
+        bill: Bill,
+        change: fn(&mut [u8]),
+    ) -> io::Result<()> {
+        self.documents += 1;
+        let [(kind, mut first), second] =
+            plain_records::boleto_records(&PAYEES[payee], self.documents, bill);
+        change(&mut first);
+        self.add_payment([(kind, first), second])
+    }
+
+    pub fn add_payment(&mut self, records: [(RecordKind, Vec<u8>); 2]) -> io::Result<()> {
+        for (kind, record) in records {
+            self.add(kind, record)?;
+        }
+        Ok(())
+    }
+
+    /// Only a return has it.
+    pub fn z(&mut self) -> io::Result<()> {
+        let record = plain_records::z_record(self.documents);
+        self.add(RecordKind::Z, record)
+    }
+
+    pub fn close_batch(&mut self) -> io::Result<()> {
+        let kind = RecordKind::BatchTrailer;
+        self.add(kind, plain_records::trailer(kind))
+    }
+
+    /// As many of the payments left as a batch may have; no batch without one.
+    fn bench_batch(&mut self, kind: BatchKind, left: &mut u64) -> io::Result<()> {
+        let payments = MOST_PAYMENTS.min(*left);
+        *left -= payments;
+        if payments == 0 {
+            return Ok(());
+        }
+        self.open_batch(kind)?;
+        for _ in 0..payments {
+            let number = self.documents;
+            let payee = number as usize % PAYEES.len();
+            let cents = HUNDRED + number * 37;
+            let due = Some(bench_due_date(number));
+            match kind {
+                BatchKind::Credit => self.credit(payee, cents)?,
+                BatchKind::Boleto => self.boleto(payee, bill(cents, number % 100, 0, due))?,
+            }
+        }
+        self.close_batch()
+    }
+
+    pub fn close(&mut self) -> io::Result<()> {
+        let kind = RecordKind::FileTrailer;
+        self.add(kind, plain_records::trailer(kind))
+    }
+}
+
+/// The smallest file there is, as document 01 names it.
+pub fn one_payment() -> Vec<u8> {
+    let mut bytes = Vec::new();
+    // Writing into memory does not fail.
+    let _ = write_one_payment(&mut bytes);
+    bytes
+}
+
+pub fn write_one_payment(out: &mut dyn Write) -> io::Result<()> {
+    let mut file = PlainFile::begin(out, Direction::Remittance)?;
+    file.open_batch(BatchKind::Credit)?;
+    file.credit(0, HUNDRED)?;
+    file.close_batch()?;
+    file.close()
+}
+
+/// Writes the file of this name; nothing is written for any other.
+pub fn write(out: &mut dyn Write, name: &[String]) -> Result<(), String> {
+    let name: Vec<&str> = name.iter().map(String::as_str).collect();
+    let written = match name.as_slice() {
+        ["one-payment"] => write_one_payment(out),
+        ["boleto"] => write_boletos(out, |_| {}),
+        // The factor of 21 February 2025, the last day of the round before.
+        ["last-round"] => write_boletos(out, |record| put_factor(record, LARGEST_FACTOR)),
+        ["return"] => write_return(out),
+        ["batches"] => write_batches(out),
+        [BENCH, payments] => write_bench(out, bench_payments(payments)?),
+        _ => return Err(format!("no file is named {}", name.join(" "))),
+    };
+    let written = written.and_then(|()| out.flush());
+    written.map_err(|error| format!("cannot write the file: {error}"))
+}
+
+/// Two boletos, the second of which has no due date in its barcode; its J is
+/// changed.
+fn write_boletos(out: &mut dyn Write, change: fn(&mut [u8])) -> io::Result<()> {
+    let mut file = PlainFile::begin(out, Direction::Remittance)?;
+    file.open_batch(BatchKind::Boleto)?;
+    file.boleto(0, bill(125_000, 2_500, 0, Some(DUE_LATER)))?;
+    file.changed_boleto(1, bill(48_750, 0, 975, None), change)?;
+    file.close_batch()?;
+    file.close()
+}
+
+fn write_return(out: &mut dyn Write) -> io::Result<()> {
+    let mut file = PlainFile::begin(out, Direction::Return)?;
+    file.open_batch(BatchKind::Credit)?;
+    file.credit(0, 315_000)?;
+    file.z()?;
+    file.credit(2, 89_990)?;
+    file.close_batch()?;
+    file.open_batch(BatchKind::Boleto)?;
+    file.boleto(1, bill(48_750, 0, 975, Some(DUE_PAST)))?;
+    file.boleto(3, bill(21_435, 0, 0, Some(DUE_SOON)))?;
+    file.z()?;
+    file.close_batch()?;
+    file.close()
+}
+
+fn write_batches(out: &mut dyn Write) -> io::Result<()> {
+    let mut file = PlainFile::begin(out, Direction::Remittance)?;
+    file.open_batch(BatchKind::Credit)?;
+    file.credit(0, 315_000)?;
+    file.credit(1, 76_420)?;
+    file.credit(2, 89_990)?;
+    file.close_batch()?;
+    file.open_batch(BatchKind::Boleto)?;
+    file.boleto(1, bill(48_750, 0, 975, Some(DUE_PAST)))?;
+    file.boleto(3, bill(21_435, 435, 0, None))?;
+    file.close_batch()?;
+    file.open_batch(BatchKind::Credit)?;
+    file.credit(3, 12_500)?;
+    file.close_batch()?;
+    file.close()
+}
+
+/// One half of the payments is A, B, the other J, J52, in batches as large as
+/// they may be.
+fn write_bench(out: &mut dyn Write, payments: u64) -> io::Result<()> {
+    let mut file = PlainFile::begin(out, Direction::Remittance)?;
+    let mut boletos = payments / 2;
+    let mut credits = payments - boletos;
+    while credits > 0 {
+        file.bench_batch(BatchKind::Credit, &mut credits)?;
+        file.bench_batch(BatchKind::Boleto, &mut boletos)?;
+    }
+    file.close()
+}
+
+/// Refuses a number of payments that the long file cannot have.
+fn bench_payments(given: &str) -> Result<u64, String> {
+    let payments = given.parse().ok();
+    let possible = payments.filter(|payments| (1..=MOST_BENCH_PAYMENTS).contains(payments));
+    possible.ok_or_else(|| format!("the long file has 1 to {MOST_BENCH_PAYMENTS} payments"))
+}
+
+/// Every due date before any comes again.
+fn bench_due_date(number: u64) -> DueDate {
+    let day = 1 + number % BENCH_DAYS;
+    let month = 1 + number / BENCH_DAYS % BENCH_MONTHS;
+    let year = FIRST_BENCH_YEAR + number / BENCH_DAYS / BENCH_MONTHS % BENCH_YEARS;
+    due_date(day as u32, month as u32, year as u32)
+}
+
+fn bill(nominal: u64, discount: u64, fine: u64, due: Option<DueDate>) -> Bill {
+    Bill {
+        nominal,
+        discount,
+        fine,
+        due,
+    }
+}

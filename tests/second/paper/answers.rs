@@ -1,0 +1,97 @@
+//! What document 01 has a call answer: `OK`, with totals or with the numbers of
+//! a record, or `NO number line place`; and the memory that the call was lent.
+
+use std::fmt;
+use std::ops::Range;
+
+/// How the line of an acceptance begins.
+pub const ACCEPTED: &str = "OK";
+
+#[derive(Clone, Copy, PartialEq, Eq)]
+pub enum Verdict {
+    Accepted,
+    Refused {
+        number: u32,
+        line: u64,
+        place: usize,
+    },
+}
+
+impl fmt::Display for Verdict {
+    fn fmt(&self, out: &mut fmt::Formatter) -> fmt::Result {
+        match self {
+            Verdict::Accepted => write!(out, "{ACCEPTED}"),
+            Verdict::Refused {
+                number,
+                line,
+                place,
+            } => write!(out, "NO {number} {line} {place}"),
+        }
+    }
+}
+
+/// One line of a reply.
+#[derive(Clone, PartialEq, Eq)]
+pub struct AnswerLine {
+    pub verdict: Verdict,
+    /// For each field of a record that was read its number, or nothing where
+    /// the field is read as bytes; for an accepted file its four totals.
+    pub numbers: Vec<Option<u64>>,
+}
+
+impl AnswerLine {
+    pub fn plain(verdict: Verdict) -> AnswerLine {
+        let numbers = Vec::new();
+        AnswerLine { verdict, numbers }
+    }
+}
+
+impl fmt::Display for AnswerLine {
+    fn fmt(&self, out: &mut fmt::Formatter) -> fmt::Result {
+        write!(out, "{}", self.verdict)?;
+        for number in &self.numbers {
+            match number {
+                Some(number) => write!(out, " {number}")?,
+                None => write!(out, " -")?,
+            }
+        }
+        Ok(())
+    }
+}
+
+/// What document 01 demands of a call.
+pub struct Answer {
+    /// One line, but for a sequence of calls.
+    pub lines: Vec<AnswerLine>,
+    /// The lent memory after the call, or the text of the record that was read.
+    pub memory: Option<Vec<u8>>,
+    /// Parts of the memory that may hold anything.
+    pub unbound: Vec<Range<usize>>,
+}
+
+impl Answer {
+    pub fn of_lines(lines: Vec<AnswerLine>) -> Answer {
+        Answer {
+            lines,
+            memory: None,
+            unbound: Vec::new(),
+        }
+    }
+
+    pub fn without_memory(verdict: Verdict) -> Answer {
+        Answer::of_lines(vec![AnswerLine::plain(verdict)])
+    }
+
+    pub fn with_memory(verdict: Verdict, memory: Vec<u8>) -> Answer {
+        Answer {
+            memory: Some(memory),
+            ..Answer::without_memory(verdict)
+        }
+    }
+
+    /// Whether the call, or the last of several, was accepted.
+    pub fn accepts(&self) -> bool {
+        let last = self.lines.last();
+        last.map(|line| line.verdict) == Some(Verdict::Accepted)
+    }
+}

@@ -1,0 +1,131 @@
+//! The tests of one call to the writer. What a call may be depends on the calls
+//! accepted before it, and on no byte of the output.
+
+use super::file_state::{Stage, State};
+use super::lines::{CENTS_LIMIT, LINE_BYTES, MOST_BATCHES, MOST_PAYMENTS};
+use super::numbers::TOTAL_TOO_LARGE;
+use super::numbers::{OUTPUT_TOO_SHORT, OUT_OF_TURN, OVER_A_LIMIT, TOO_MANY_RECORDS};
+use super::places::{self, SEGMENT, TYPE};
+use super::record_kinds::RecordKind;
+use super::record_rules::{Draft, Refusal};
+use super::writer_calls::{CallKind, WriterCall};
+use super::writer_fill::Filling;
+use super::writer_order::{rows_in_order, Row};
+use super::writer_record_rules::GivenRecordRules;
+use super::Paper;
+
+const MOST_RECORDS: u64 = 999_999;
+/// Two trailers have to find room behind every payment, and two details too
+/// behind a batch header.
+const RECORDS_BEHIND_A_PAYMENT: u64 = 2;
+const RECORDS_BEHIND_A_HEADER: u64 = 4;
+
+/// A call that is made: what it is, and what it meets.
+pub struct Attempt<'a> {
+    pub state: &'a State,
+    pub call: &'a WriterCall,
+    pub kinds: &'a [RecordKind],
+    /// The records as they would be written.
+    pub drafts: &'a [Draft],
+    /// The place reached in the output, and the part of it that is lent.
+    pub cursor: usize,
+    pub lent: usize,
+}
+
+impl Attempt<'_> {
+    pub fn records(&self) -> usize {
+        self.kinds.len()
+    }
+
+    /// What the payment adds to its batch; nothing in other calls.
+    fn amount(&self) -> u128 {
+        let part = self.kinds.first().and_then(|kind| places::amount(*kind));
+        let amount = part.map_or(0, |part| part.number(&self.drafts[0].bytes));
+        u128::from(amount)
+    }
+
+    /// The first line the call would have written, or the line of the record
+    /// with the fault.
+    pub fn line(&self, row: Row) -> u64 {
+        self.state.accepted_lines + 1 + row.record().unwrap_or(0) as u64
+    }
+}
+
+pub trait WriterRules: GivenRecordRules + Filling {
+    /// The rows that hold for the call, in order: the first is the answer.
+    fn call_refusals<'a>(
+        &'a self,
+        attempt: &'a Attempt,
+    ) -> impl Iterator<Item = (Row, Refusal)> + 'a {
+        let rows = self.call_rows(attempt).into_iter();
+        rows.filter_map(|row| Some((row, self.call_refusal(row, attempt)?)))
+    }
+
+    fn call_rows(&self, attempt: &Attempt) -> Vec<Row> {
+        rows_in_order(attempt.kinds)
+    }
+
+    fn call_refusal(&self, row: Row, attempt: &Attempt) -> Option<Refusal> {
+        match row {
+            Row::Turn => (!self.is_in_turn(attempt)).then_some((OUT_OF_TURN, 0)),
+            Row::Limit => self.limit_refusal(attempt),
+            Row::RecordLimit => {
+                let over = passes_record_limit(attempt);
+                over.then_some((TOO_MANY_RECORDS, 0))
+            }
+            Row::Bytes(at) => self.byte_refusal(&attempt.drafts[at].bytes),
+            Row::Segment(at) => self.given_segment_refusal(attempt, at),
+            Row::Field(at, field) => self.given_field_refusal(attempt, at, field),
+            Row::Boleto(at, rule) => self.given_boleto_refusal(&attempt.drafts[at], rule),
+            Row::Total => {
+                let batch = attempt.state.batch().map_or(0, |batch| batch.cents);
+                let total = attempt.state.cents + batch + attempt.amount();
+                (total >= CENTS_LIMIT).then_some((TOTAL_TOO_LARGE, 0))
+            }
+            Row::Room => (!self.has_room(attempt)).then_some((OUTPUT_TOO_SHORT, 0)),
+        }
+    }
+
+    /// Closing a batch with no payment or a file with no batch is out of turn.
+    fn is_in_turn(&self, attempt: &Attempt) -> bool {
+        match (attempt.call.kind, &attempt.state.stage) {
+            (CallKind::OpenFile, Stage::Start) => true,
+            (CallKind::OpenBatch, Stage::BetweenBatches) => true,
+            (CallKind::Payment, Stage::InBatch(_)) => true,
+            (CallKind::CloseBatch, Stage::InBatch(batch)) => batch.payments > 0,
+            (CallKind::CloseFile, Stage::BetweenBatches) => attempt.state.batches > 0,
+            _ => false,
+        }
+    }
+
+    fn limit_refusal(&self, attempt: &Attempt) -> Option<Refusal> {
+        let state = attempt.state;
+        let (over, part) = match attempt.call.kind {
+            CallKind::OpenBatch => (state.batches >= self.most_batches_written(), TYPE),
+            CallKind::Payment => (state.batch()?.payments >= MOST_PAYMENTS, SEGMENT),
+            _ => return None,
+        };
+        over.then_some((OVER_A_LIMIT, part.first))
+    }
+
+    fn most_batches_written(&self) -> u64 {
+        MOST_BATCHES
+    }
+
+    /// From the place reached, which may lie behind all that is lent.
+    fn has_room(&self, attempt: &Attempt) -> bool {
+        let left = attempt.lent.saturating_sub(attempt.cursor);
+        left >= attempt.records() * LINE_BYTES
+    }
+}
+
+impl WriterRules for Paper {}
+
+fn passes_record_limit(attempt: &Attempt) -> bool {
+    let behind = match attempt.call.kind {
+        CallKind::OpenBatch => RECORDS_BEHIND_A_HEADER,
+        CallKind::Payment => RECORDS_BEHIND_A_PAYMENT,
+        _ => return false,
+    };
+    attempt.state.accepted_lines + attempt.records() as u64 + behind > MOST_RECORDS
+}

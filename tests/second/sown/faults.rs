@@ -1,0 +1,263 @@
+//! The list of seeded faults, and what each is about. A comparison that does not
+//! notice one of them would not notice the same mistake in the payment desk
+//! either.
+
+use super::writer_faults::{WriterFault, WRITER_FAULTS};
+
+#[derive(Clone, Copy, PartialEq, Eq)]
+pub enum Fault {
+    RemainderZeroOrOneGivesZero,
+    WeightsStopAtEight,
+    LineGeneralCheckAtFive,
+    FieldsFromTheRight,
+    CurrencyBeforeNonDigit,
+    NonDigitBeforeLength,
+    GeneralCheckBeforeFields,
+    RoomFirst,
+    FieldsTwoAndThreeSwapped,
+    OneByteTooFew,
+    ClearedBehindTheResult,
+    ProductDigitsNotAdded,
+    NonDigitCountedFromZero,
+    TextTestedAtFirstByteOnly,
+    SegmentBeforeType,
+    BarcodeCurrencyBeforeDigits,
+    Year2200Allowed,
+    LeapEveryFourthYear,
+    Hour24Allowed,
+    BlanksTestedAtFirstByteOnly,
+    ReservedTestedInReturns,
+    J52EndFreeInReturns,
+    Service03InAReturn,
+    FormRefusedAtItsOwnPlace,
+    Place143AgainstDirection,
+    ZRefusedInARemittance,
+    Byte127Allowed,
+    NumberEndsOnePlaceShort,
+    IdentifiersReadAsNumbers,
+    NumbersReadIn32Bits,
+    WideNumberCut,
+    WideDateIsNoNumber,
+    RoomBeforeFields,
+    RecordFieldsFromTheRight,
+    FixedContentNotFilled,
+    UnusedTextTested,
+    RefusedRecordWritten,
+    ClearedBehindTheRecord,
+    LengthBeforeEnd,
+    LineEndBeforeBytes,
+    BatchLimitBehindBank,
+    BatchNumberBeforeBank,
+    SegmentBeforeDetailNumber,
+    CountsBehindFields,
+    SumBeforeFields,
+    TotalBeforeSum,
+    EquationBeforeFields,
+    DueDateBeforeCheck,
+    FileWithoutBatchTaken,
+    BatchWithoutPaymentTaken,
+    ZTakenInARemittance,
+    SecondZTaken,
+    J52KnownByItsBytes,
+    DirectionFixedAsRemittance,
+    NonDigitBankIsEight,
+    BatchesUnlimited,
+    TrailerCountsPayments,
+    FileEndsNotCounted,
+    SumsIn32Bits,
+    SumsCutTo18Digits,
+    SumTestedInFirstBatchOnly,
+    TotalUnlimited,
+    TotalAtTheLimitTaken,
+    MovementNineNotSummed,
+    ZCountedAsPayment,
+    DiscountAdded,
+    SmallFactorsNotCounted,
+    DaysNeverFolded,
+    DaysFoldedModulo10000,
+    DaysFoldedInto0To8999,
+    DaysFoldedOnce,
+    RoundsBeginAtOne,
+    FactorsComparedModulo9000,
+    OldDatesWithoutFactor,
+    EarlyDaysWrap,
+    CentsAgainstTenDigits,
+    NotLookedAtBehindTheEnd,
+    LinesCutAtLineFeeds,
+    EmptyCallTaken,
+    RefusedLineMovesTheState,
+    LinesCountedByCalls,
+    RefusalKeptToTheEnd,
+    Writer(WriterFault),
+}
+
+/// Mistakes about digit strings and records alone.
+const NAMED_FAULTS: [(&str, Fault); 38] = [
+    (
+        "remainder-zero-or-one-gives-zero",
+        Fault::RemainderZeroOrOneGivesZero,
+    ),
+    ("weights-stop-at-eight", Fault::WeightsStopAtEight),
+    ("line-general-check-at-five", Fault::LineGeneralCheckAtFive),
+    ("fields-from-the-right", Fault::FieldsFromTheRight),
+    ("currency-before-non-digit", Fault::CurrencyBeforeNonDigit),
+    ("non-digit-before-length", Fault::NonDigitBeforeLength),
+    (
+        "general-check-before-fields",
+        Fault::GeneralCheckBeforeFields,
+    ),
+    ("room-first", Fault::RoomFirst),
+    (
+        "fields-two-and-three-swapped",
+        Fault::FieldsTwoAndThreeSwapped,
+    ),
+    ("one-byte-too-few", Fault::OneByteTooFew),
+    ("cleared-behind-the-result", Fault::ClearedBehindTheResult),
+    ("product-digits-not-added", Fault::ProductDigitsNotAdded),
+    (
+        "non-digit-counted-from-zero",
+        Fault::NonDigitCountedFromZero,
+    ),
+    (
+        "text-tested-at-first-byte-only",
+        Fault::TextTestedAtFirstByteOnly,
+    ),
+    ("segment-before-type", Fault::SegmentBeforeType),
+    (
+        "barcode-currency-before-digits",
+        Fault::BarcodeCurrencyBeforeDigits,
+    ),
+    ("year-2200-allowed", Fault::Year2200Allowed),
+    ("leap-every-fourth-year", Fault::LeapEveryFourthYear),
+    ("hour-24-allowed", Fault::Hour24Allowed),
+    (
+        "blanks-tested-at-first-byte-only",
+        Fault::BlanksTestedAtFirstByteOnly,
+    ),
+    ("reserved-tested-in-returns", Fault::ReservedTestedInReturns),
+    ("j52-end-free-in-returns", Fault::J52EndFreeInReturns),
+    ("service-03-in-a-return", Fault::Service03InAReturn),
+    (
+        "form-refused-at-its-own-place",
+        Fault::FormRefusedAtItsOwnPlace,
+    ),
+    (
+        "place-143-against-direction",
+        Fault::Place143AgainstDirection,
+    ),
+    ("z-refused-in-a-remittance", Fault::ZRefusedInARemittance),
+    ("byte-127-allowed", Fault::Byte127Allowed),
+    (
+        "number-ends-one-place-short",
+        Fault::NumberEndsOnePlaceShort,
+    ),
+    (
+        "identifiers-read-as-numbers",
+        Fault::IdentifiersReadAsNumbers,
+    ),
+    ("numbers-read-in-32-bits", Fault::NumbersReadIn32Bits),
+    ("wide-number-cut", Fault::WideNumberCut),
+    ("wide-date-is-no-number", Fault::WideDateIsNoNumber),
+    ("room-before-fields", Fault::RoomBeforeFields),
+    (
+        "record-fields-from-the-right",
+        Fault::RecordFieldsFromTheRight,
+    ),
+    ("fixed-content-not-filled", Fault::FixedContentNotFilled),
+    ("unused-text-tested", Fault::UnusedTextTested),
+    ("refused-record-written", Fault::RefusedRecordWritten),
+    ("cleared-behind-the-record", Fault::ClearedBehindTheRecord),
+];
+
+/// Mistakes about the lines of files.
+const NAMED_FILE_FAULTS: [(&str, Fault); 44] = [
+    ("length-before-end", Fault::LengthBeforeEnd),
+    ("line-end-before-bytes", Fault::LineEndBeforeBytes),
+    ("batch-limit-behind-bank", Fault::BatchLimitBehindBank),
+    ("batch-number-before-bank", Fault::BatchNumberBeforeBank),
+    (
+        "segment-before-detail-number",
+        Fault::SegmentBeforeDetailNumber,
+    ),
+    ("counts-behind-fields", Fault::CountsBehindFields),
+    ("sum-before-fields", Fault::SumBeforeFields),
+    ("total-before-sum", Fault::TotalBeforeSum),
+    ("equation-before-fields", Fault::EquationBeforeFields),
+    ("due-date-before-check", Fault::DueDateBeforeCheck),
+    ("file-without-batch-taken", Fault::FileWithoutBatchTaken),
+    (
+        "batch-without-payment-taken",
+        Fault::BatchWithoutPaymentTaken,
+    ),
+    ("z-taken-in-a-remittance", Fault::ZTakenInARemittance),
+    ("second-z-taken", Fault::SecondZTaken),
+    ("j52-known-by-its-bytes", Fault::J52KnownByItsBytes),
+    (
+        "direction-fixed-as-remittance",
+        Fault::DirectionFixedAsRemittance,
+    ),
+    ("non-digit-bank-is-eight", Fault::NonDigitBankIsEight),
+    ("batches-unlimited", Fault::BatchesUnlimited),
+    ("trailer-counts-payments", Fault::TrailerCountsPayments),
+    ("file-ends-not-counted", Fault::FileEndsNotCounted),
+    ("sums-in-32-bits", Fault::SumsIn32Bits),
+    ("sums-cut-to-18-digits", Fault::SumsCutTo18Digits),
+    (
+        "sum-tested-in-first-batch-only",
+        Fault::SumTestedInFirstBatchOnly,
+    ),
+    ("total-unlimited", Fault::TotalUnlimited),
+    ("total-at-the-limit-taken", Fault::TotalAtTheLimitTaken),
+    ("movement-nine-not-summed", Fault::MovementNineNotSummed),
+    ("z-counted-as-payment", Fault::ZCountedAsPayment),
+    ("discount-added", Fault::DiscountAdded),
+    ("small-factors-not-counted", Fault::SmallFactorsNotCounted),
+    ("days-never-folded", Fault::DaysNeverFolded),
+    ("days-folded-modulo-10000", Fault::DaysFoldedModulo10000),
+    ("days-folded-into-0-to-8999", Fault::DaysFoldedInto0To8999),
+    ("days-folded-once", Fault::DaysFoldedOnce),
+    ("rounds-begin-at-one", Fault::RoundsBeginAtOne),
+    (
+        "factors-compared-modulo-9000",
+        Fault::FactorsComparedModulo9000,
+    ),
+    ("old-dates-without-factor", Fault::OldDatesWithoutFactor),
+    ("early-days-wrap", Fault::EarlyDaysWrap),
+    ("cents-against-ten-digits", Fault::CentsAgainstTenDigits),
+    (
+        "not-looked-at-behind-the-end",
+        Fault::NotLookedAtBehindTheEnd,
+    ),
+    ("lines-cut-at-line-feeds", Fault::LinesCutAtLineFeeds),
+    ("empty-call-taken", Fault::EmptyCallTaken),
+    (
+        "refused-line-moves-the-state",
+        Fault::RefusedLineMovesTheState,
+    ),
+    ("lines-counted-by-calls", Fault::LinesCountedByCalls),
+    ("refusal-kept-to-the-end", Fault::RefusalKeptToTheEnd),
+];
+
+/// What a fault is about: requests about other things do not show it.
+#[derive(Clone, Copy, PartialEq, Eq)]
+pub enum Topic {
+    StringsAndRecords,
+    Files,
+    Writer,
+}
+
+pub const TOPICS: [Topic; 3] = [Topic::StringsAndRecords, Topic::Files, Topic::Writer];
+
+/// All faults about a topic with their names.
+pub fn faults_about(topic: Topic) -> Vec<(String, Fault)> {
+    let named = match topic {
+        Topic::StringsAndRecords => NAMED_FAULTS.as_slice(),
+        Topic::Files => NAMED_FILE_FAULTS.as_slice(),
+        Topic::Writer => {
+            let faults = WRITER_FAULTS.iter();
+            return faults.map(|f| (f.name(), Fault::Writer(*f))).collect();
+        }
+    };
+    let named = named.iter();
+    named.map(|(name, f)| (name.to_string(), *f)).collect()
+}

@@ -1,0 +1,51 @@
+//! Mistakes sown in the rules of the papers, one at a time. Each rule of `paper`
+//! is a method of a trait; here the same traits are taken with the one method
+//! that a fault is about replaced. What a fault does to the state between two
+//! calls, or to the memory behind one, is done around the paper's own checker
+//! and writer. No model knows of its faults.
+
+pub mod answers;
+mod boletos;
+mod calendar;
+mod digit_strings;
+mod due_factors;
+pub mod faults;
+mod line_checker;
+mod line_rules;
+mod order;
+mod records;
+mod writer;
+mod writer_faults;
+mod writer_fill;
+mod writer_order;
+mod writer_rules;
+mod writer_slips;
+
+pub use due_factors::mistaken_factors;
+
+use faults::Fault;
+use writer_faults::WriterFault;
+
+/// The rules of the papers with one fault in them.
+#[derive(Clone, Copy)]
+pub struct Sown {
+    fault: Fault,
+}
+
+impl Sown {
+    pub fn with(fault: Fault) -> Sown {
+        Sown { fault }
+    }
+
+    fn has(self, fault: Fault) -> bool {
+        self.fault == fault
+    }
+
+    /// The fault, if it is one of the writer.
+    fn writer_fault(self) -> Option<WriterFault> {
+        match self.fault {
+            Fault::Writer(fault) => Some(fault),
+            _ => None,
+        }
+    }
+}
