@@ -2,4 +2,3 @@
 mod Edges
 mod Fields
 mod Length
-mod Rounds

@@ -2,7 +2,6 @@ pub mod Order
 pub mod Totals
 pub mod Line
 pub mod Machine
-pub mod File
 pub mod Calls
 pub mod laws
 pub mod inner

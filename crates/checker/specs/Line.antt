@@ -12,12 +12,17 @@ use Rattle.calendar.specs.Calendar.{numberFits, dateOf}
 use Rattle.calendar.specs.Due.{factorFits}
 use Rattle.boleto.specs.Strings.{factorDigits, centsDigits}
 use Rattle.boleto.specs.Rules.{generalFits}
-use Rattle.layout.specs.Table.{Field, part, isOneOf, bankField, batchField, typePlace, numberField, segmentPlace, segmentFields, fieldsOf, recordBytes, barcodeField, dueField, nominalField, discountField, fineField, boletoAmount, batchRecords, batchSum, fileBatches, fileRecords}
+use Rattle.layout.specs.Field.{Field, part}
+use Rattle.layout.specs.Records.{shapeOf, boletoAmount}
+use Rattle.layout.specs.Table.{bankField, batchField, typePlace, numberField, segmentPlace, segmentFields, fieldsOf, recordBytes, barcodeField, dueField, nominalField, discountField, fineField, batchRecords, batchSum, fileBatches, fileRecords}
 use Rattle.layout.specs.Record.{rulesOf, byteRule}
 use Rattle.layout.specs.declared.Record.{Record}
-use Rattle.layout.specs.declared.Record.the-variants.{FileHeader, BatchHeader, SegmentA, SegmentB, SegmentJ, SegmentJ52, SegmentZ, BatchTrailer, FileTrailer}
+use Rattle.layout.specs.declared.shapes.LineType.{LineType}
+use Rattle.layout.specs.declared.shapes.LineType.the-variants.{FileFirst, BatchFirst, Detail, BatchLast, FileLast}
+use Rattle.layout.specs.declared.shapes.House.{House}
+use Rattle.layout.specs.declared.shapes.House.the-variants.{NoRules, RulesOfJ}
 use Rattle.checker.specs.Order.{follows, readAs, ended}
-use Rattle.checker.specs.Totals.{paymentsOf}
+use Rattle.checker.specs.Totals.{batchCount, recordCount, paymentCount, centSum, paymentsOf}
 use Rattle.checker.specs.declared.order.Reading.{Reading}
 use Rattle.checker.specs.declared.order.Reading.the-variants.{Line, Nothing}
 use Rattle.checker.specs.declared.Checker.{Checker}
@@ -36,7 +41,7 @@ batchNumber k rec = reads 9 batchField k rec
 
 -- the ordinal of the batch that is open, or that a header opens
 abbrev pub ordinal : Checker → ℕ
-ordinal s = s .closed .batches + 1
+ordinal s = batchCount (s .closed) + 1
 
 abbrev pub mostBatches : ℕ
 mostBatches = 70
@@ -100,53 +105,54 @@ boletoRules rec =
     ∷ rule 19 (boletoAmount .from) (amountFits rec)
     ∷ []
 
+-- what the house asks of a record behind its fields
+abbrev pub houseBy : House → List ℕ → List Rule
+houseBy NoRules rec = []
+houseBy RulesOfJ rec = boletoRules rec
+
 abbrev pub houseRules : Record → List ℕ → List Rule
-houseRules r rec = cond (isOneOf r (SegmentJ ∷ [])) (boletoRules rec) []
+houseRules r rec = houseBy (shapeOf r .house) rec
 
--- ---- behind the type, by what the line is read as
+-- ---- behind the type, by the type of the line that a record is
 
-unfoldable pub detailRules : Record → Checker → List ℕ → List Rule
-detailRules r s rec =
-    bank s rec
-    ∷ batchNumber (ordinal s) rec
-    ∷ reads 10 numberField (s .current .records .0) rec
-    ∷ rulesOf (segmentFields r) (s .dir) rec
-    ++ rule 20 segmentPlace (leb (s .current .payments + paymentsOf r) mostPayments)
-    ∷ rulesOf (behind segmentPlace r) (s .dir) rec
-    ++ houseRules r rec
-
-unfoldable pub rulesAs : Record → Checker → List ℕ → List Rule
-rulesAs FileHeader s rec =
+unfoldable pub rulesOfType : LineType → Record → Checker → List ℕ → List Rule
+rulesOfType FileFirst r s rec =
     rule 8 (bankField .from) (allDigits (part bankField rec))
     ∷ batchNumber headerBatch rec
-    ∷ rulesOf (behind typePlace FileHeader) (s .dir) rec
-rulesAs BatchHeader s rec =
+    ∷ rulesOf (behind typePlace r) (s .dir) rec
+rulesOfType BatchFirst r s rec =
     rule 20 typePlace (leb (ordinal s) mostBatches)
     ∷ bank s rec
     ∷ batchNumber (ordinal s) rec
-    ∷ rulesOf (behind typePlace BatchHeader) (s .dir) rec
-rulesAs SegmentA s rec = detailRules SegmentA s rec
-rulesAs SegmentB s rec = detailRules SegmentB s rec
-rulesAs SegmentJ s rec = detailRules SegmentJ s rec
-rulesAs SegmentJ52 s rec = detailRules SegmentJ52 s rec
-rulesAs SegmentZ s rec = detailRules SegmentZ s rec
-rulesAs BatchTrailer s rec =
+    ∷ rulesOf (behind typePlace r) (s .dir) rec
+rulesOfType Detail r s rec =
     bank s rec
     ∷ batchNumber (ordinal s) rec
-    ∷ rulesOf (between typePlace (batchRecords .to) BatchTrailer) (s .dir) rec
-    ++ reads 21 batchRecords (s .current .records .0 + 1) rec
-    ∷ rulesOf (behind (batchRecords .to) BatchTrailer) (s .dir) rec
-    ++ reads 22 batchSum (s .current .cents .0) rec
-    ∷ rule 23 (batchSum .from) (ltb (s .closed .cents .0 + s .current .cents .0) fileCents)
+    ∷ reads 10 numberField (recordCount (s .current)) rec
+    ∷ rulesOf (segmentFields r) (s .dir) rec
+    ++ rule 20 segmentPlace (leb (paymentCount (s .current) + paymentsOf r) mostPayments)
+    ∷ rulesOf (behind segmentPlace r) (s .dir) rec
+rulesOfType BatchLast r s rec =
+    bank s rec
+    ∷ batchNumber (ordinal s) rec
+    ∷ rulesOf (between typePlace (batchRecords .to) r) (s .dir) rec
+    ++ reads 21 batchRecords (recordCount (s .current) + 1) rec
+    ∷ rulesOf (behind (batchRecords .to) r) (s .dir) rec
+    ++ reads 22 batchSum (centSum (s .current)) rec
+    ∷ rule 23 (batchSum .from) (ltb (centSum (s .closed) + centSum (s .current)) fileCents)
     ∷ []
-rulesAs FileTrailer s rec =
+rulesOfType FileLast r s rec =
     bank s rec
     ∷ batchNumber trailerBatch rec
-    ∷ rulesOf (between typePlace (fileBatches .to) FileTrailer) (s .dir) rec
-    ++ reads 21 fileBatches (s .closed .batches) rec
-    ∷ rulesOf (between (fileBatches .to) (fileRecords .to) FileTrailer) (s .dir) rec
-    ++ reads 21 fileRecords (s .closed .records .0 + 1) rec
-    ∷ rulesOf (behind (fileRecords .to) FileTrailer) (s .dir) rec
+    ∷ rulesOf (between typePlace (fileBatches .to) r) (s .dir) rec
+    ++ reads 21 fileBatches (batchCount (s .closed)) rec
+    ∷ rulesOf (between (fileBatches .to) (fileRecords .to) r) (s .dir) rec
+    ++ reads 21 fileRecords (recordCount (s .closed) + 1) rec
+    ∷ rulesOf (behind (fileRecords .to) r) (s .dir) rec
+
+-- those, then the house's
+unfoldable pub rulesAs : Record → Checker → List ℕ → List Rule
+rulesAs r s rec = rulesOfType (shapeOf r .line) r s rec ++ houseRules r rec
 
 -- ---- a line
 

@@ -4,15 +4,15 @@ use mathlib.Core.List.{List, [], _∷_, _++_}
 use Prim.Native.Nat.{ℕ}
 use lib.Dec.{eqb}
 use lib.ListN.{take, drop}
-use Rattle.layout.specs.Table.{isOneOf, typeOf, letterZ}
+use Rattle.layout.specs.Records.{isOneOf, typeOf, letterZ}
 use Rattle.layout.specs.declared.Direction.{Direction}
 use Rattle.layout.specs.declared.Direction.the-variants.{Remittance, Return}
 use Rattle.layout.specs.declared.Record.{Record}
 use Rattle.layout.specs.declared.Record.the-variants.{FileHeader, BatchHeader, SegmentA, SegmentB, SegmentJ, SegmentJ52, SegmentZ, BatchTrailer, FileTrailer}
 use Rattle.layout.specs.declared.pairs.Batch.{Batch}
 use Rattle.layout.specs.declared.pairs.Batch.the-variants.{Credit, Boleto, Unknown}
-use Rattle.checker.specs.declared.order.Phase.{Phase}
-use Rattle.checker.specs.declared.order.Phase.the-variants.{Start, Headed, Opened, Begun, Paid, BehindZ, Closed, Ended}
+use Rattle.layout.specs.declared.shapes.Phase.{Phase}
+use Rattle.layout.specs.declared.shapes.Phase.the-variants.{Start, Headed, Opened, Within, Paid, BehindZ, Closed, Ended}
 use Rattle.checker.specs.declared.order.Reading.{Reading}
 use Rattle.checker.specs.declared.order.Reading.the-variants.{Line, Nothing}
 
@@ -22,41 +22,32 @@ payment Credit = SegmentA ∷ SegmentB ∷ []
 payment Boleto = SegmentJ ∷ SegmentJ52 ∷ []
 payment Unknown = []
 
-abbrev pub first : Batch → List Record
-first b = take 1 (payment b)
+-- the one at a position, from 0 on; behind the last there is none
+abbrev pub recordAt : ℕ → Batch → List Record
+recordAt n b = take 1 (drop n (payment b))
 
-abbrev pub second : Batch → List Record
-second b = take 1 (drop 1 (payment b))
+-- the first of records, or none
+abbrev pub readingOf : List Record → Reading
+readingOf [] = Nothing
+readingOf (r ∷ rs) = Line r
 
 -- the lines that may follow
 abbrev pub follows : Phase → Direction → Batch → List Record
 follows Start d b = FileHeader ∷ []
 follows Headed d b = BatchHeader ∷ []
-follows Opened d b = first b
-follows Begun d b = second b
-follows Paid Remittance b = first b ++ BatchTrailer ∷ []
-follows Paid Return b = SegmentZ ∷ first b ++ BatchTrailer ∷ []
-follows BehindZ d b = first b ++ BatchTrailer ∷ []
+follows Opened d b = recordAt 0 b
+follows (Within n) d b = recordAt n b
+follows Paid Remittance b = recordAt 0 b ++ BatchTrailer ∷ []
+follows Paid Return b = SegmentZ ∷ recordAt 0 b ++ BatchTrailer ∷ []
+follows BehindZ d b = recordAt 0 b ++ BatchTrailer ∷ []
 follows Closed d b = BatchHeader ∷ FileTrailer ∷ []
 follows Ended d b = []
-
--- the phase behind a line
-abbrev pub after : Record → Phase
-after FileHeader = Headed
-after BatchHeader = Opened
-after SegmentA = Begun
-after SegmentB = Paid
-after SegmentJ = Begun
-after SegmentJ52 = Paid
-after SegmentZ = BehindZ
-after BatchTrailer = Closed
-after FileTrailer = Ended
 
 abbrev pub ended : Phase → Bool
 ended Start = false
 ended Headed = false
 ended Opened = false
-ended Begun = false
+ended (Within n) = false
 ended Paid = false
 ended BehindZ = false
 ended Closed = false

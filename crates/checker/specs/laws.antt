@@ -2,11 +2,10 @@
 pub mod Sums
 pub mod Bounds
 pub mod Listed
+pub mod Payments
 pub mod Edges
 pub mod Meaning
 pub mod Details
 pub mod Asks
 pub mod Kept
 pub mod Reached
-pub mod Runs
-pub mod Verdict

@@ -1,18 +1,18 @@
 // The house rules of J: general check, due date, cents and amount.
-use super::places;
 use super::totals::amount;
 use answer::Answer;
 use answer::Cents;
 use answer::numbers;
 use calendar::Date;
-use layout::Record;
+use layout::House;
+use layout::places;
 ghost use mathlib.Core.Path.{_≡_};
 ghost use Prim.Native.Nat.{_<_, _^_};
 ghost use lib.ListN.{length};
 ghost use Rattle.answer.specs.Rules.{firstBroken};
 ghost use Rattle.layout.specs.Table.{recordBytes, nominalField};
 ghost use Rattle.checker.specs.Totals.{amountDigits};
-ghost use Rattle.checker.specs.Line.{cents, dueFits, centsFit, amountFits, boletoRules, houseRules};
+ghost use Rattle.checker.specs.Line.{cents, dueFits, centsFit, amountFits, boletoRules, houseBy};
 
 // A barcode that leaves the cents to the record.
 const NOT_STATED: Cents = Cents(0);
@@ -63,20 +63,13 @@ fn check_boleto(rec: &[u8]) -> Answer
     check.and_then(due.and_then(cents.and_then(amount)))
 }
 
-// Behind the fields: only J has such rules.
-pub(crate) fn check_house(which: Record, rec: &[u8]) -> Answer
+// What the house asks of a record behind its fields.
+pub(crate) fn check_house(house: House, rec: &[u8]) -> Answer
     requires { ⌜ length (now rec) ≡ recordBytes ⌝ }
-    ensures { λ r. ⌜ r ≡ firstBroken (houseRules which (now (rec .entry))) ⌝ }
+    ensures { λ r. ⌜ r ≡ firstBroken (houseBy house (now (rec .entry))) ⌝ }
 {
-    match which {
-        Record::FileHeader => Answer::Accepted,
-        Record::BatchHeader => Answer::Accepted,
-        Record::SegmentA => Answer::Accepted,
-        Record::SegmentB => Answer::Accepted,
-        Record::SegmentJ => check_boleto(rec),
-        Record::SegmentJ52 => Answer::Accepted,
-        Record::SegmentZ => Answer::Accepted,
-        Record::BatchTrailer => Answer::Accepted,
-        Record::FileTrailer => Answer::Accepted,
+    match house {
+        House::NoRules => Answer::Accepted,
+        House::RulesOfJ => check_boleto(rec),
     }
 }

@@ -1,11 +1,9 @@
-// The line machine: a checker's state by value, its step over a line, and the check of a whole file.
+// The line machine: a checker's state by value, and its step over a line.
 mod boletos;
-mod file;
 mod limits;
 mod lines;
 mod moves;
 mod order;
-pub mod places;
 mod reads;
 mod totals;
 
@@ -13,21 +11,27 @@ use answer::Answer;
 use answer::LineNo;
 use answer::NO_LINE;
 use answer::numbers;
-pub use file::Outcome;
-pub use file::check_file;
 use layout::Batch;
 use layout::Direction;
+use layout::Phase;
 use layout::RECORD_BYTES;
+use layout::places;
 pub use limits::HEADER_BATCH;
 pub use limits::MOST_BATCHES;
 pub use limits::MOST_PAYMENTS;
 pub use limits::TRAILER_BATCH;
-pub use order::Phase;
+pub use order::Reading;
+pub use order::is_ended;
+pub use order::record_at;
+pub use order::records_of;
 pub use totals::Totals;
 ghost use mathlib.Core.Path.{_≡_};
 ghost use mathlib.Core.Bool.{cond};
-ghost use Rattle.answer.specs.Rules.{noLine};
-ghost use Rattle.checker.specs.Machine.{lineOf, sound, stepOf, start};
+ghost use lib.ListN.{length};
+ghost use Rattle.answer.specs.Rules.{noLine, firstBroken, onLine};
+ghost use Rattle.layout.specs.Table.{recordBytes};
+ghost use Rattle.checker.specs.Line.{typeRules};
+ghost use Rattle.checker.specs.Machine.{lineOf, sound, stepped, answerTo, stepOf, start};
 ghost use Rattle.checker.specs.inner.Steps.{Bounded};
 
 pub const LINE_BYTES: usize = 242;
@@ -54,7 +58,7 @@ impl Checker {
         requires { ⌜ Bounded self ⌝ }
         ensures { λ r. ⌜ r ≡ lineOf self ⌝ }
     {
-        LineNo::behind(self.closed.records.plus(self.current.records))
+        LineNo::behind(self.closed.records().plus(self.current.records()))
     }
 
     // Before any line.
@@ -71,6 +75,41 @@ impl Checker {
         }
     }
 
+    // A line that is refused: the refusal names it, and the state is left.
+    fn refuse(self, answer: Answer) -> Stepped
+        requires { ⌜ Bounded self ⌝ }
+        ensures { λ r. ⌜ r ≡ stepped self (onLine (lineOf self) answer) ⌝ }
+    {
+        Stepped {
+            state: self,
+            answer: answer.on_line(self.line_no()),
+        }
+    }
+
+    // A record whose bytes and line end are right. What it is read as is asked once, and its row is
+    // handed on.
+    fn step_record(self, rec: &[u8]) -> Stepped
+        requires { ⌜ length (now rec) ≡ recordBytes ⌝ }
+        requires { ⌜ Bounded self ⌝ }
+        ensures { λ r. ⌜ r ≡ answerTo (firstBroken (typeRules self (now (rec .entry)))) self (now (rec .entry)) ⌝ }
+    {
+        let reading = self.line_is(rec);
+        match reading {
+            Reading::Nothing => self.refuse(Answer::refused(numbers::TYPE, places::TYPE)),
+            Reading::Line(which) => {
+                let shape = layout::shape_of(which);
+                let answer = self.check_as(which, shape, rec);
+                match answer {
+                    Answer::Accepted => Stepped {
+                        state: self.after(shape, rec),
+                        answer,
+                    },
+                    Answer::Refused(_) => self.refuse(answer),
+                }
+            }
+        }
+    }
+
     // A line: a refused one leaves the state.
     pub fn step(self, line: &[u8]) -> Stepped
         ensures { λ r. ⌜ r ≡ stepOf self (now (line .entry)) ⌝ }
@@ -81,19 +120,10 @@ impl Checker {
                 answer: Answer::refused(numbers::OUT_OF_TURN, 0),
             };
         }
-        let answer = self.check(line);
-        match answer {
-            Answer::Accepted => {
-                let rec = &line[0..RECORD_BYTES];
-                Stepped {
-                    state: self.moved(rec),
-                    answer,
-                }
-            }
-            Answer::Refused(_) => Stepped {
-                state: self,
-                answer: answer.on_line(self.line_no()),
-            },
+        let front = self.check_front(line);
+        match front {
+            Answer::Accepted => self.step_record(&line[0..RECORD_BYTES]),
+            Answer::Refused(_) => self.refuse(front),
         }
     }
 

@@ -1,25 +1,15 @@
 // The order of lines: which may follow, and what a line is read as.
 use layout::Batch;
 use layout::Direction;
+use layout::Phase;
 use layout::Record;
 ghost use mathlib.Core.Path.{_≡_};
 ghost use mathlib.Core.Bool.{cond};
-ghost use Rattle.checker.specs.Order.{first, second, follows, after, ended, readAs};
-ghost use Rattle.checker.specs.inner.Steps.{readingOf, endAs, isReturn};
+ghost use mathlib.Core.List.{_∷_, []};
+ghost use lib.ListN.{length, take, drop};
+ghost use Rattle.checker.specs.Order.{payment, recordAt, readingOf, follows, ended, readAs};
+ghost use Rattle.checker.specs.inner.Steps.{endAs, isReturn};
 ghost use Rattle.checker.specs.declared.order.Reading.the-variants.{Line, Nothing};
-
-// By what was accepted last: nothing, the file header, a batch header, the first record of a payment,
-// its last, a Z, a batch trailer, the file trailer.
-pub enum Phase {
-    Start,
-    Headed,
-    Opened,
-    Begun,
-    Paid,
-    BehindZ,
-    Closed,
-    Ended,
-}
 
 // What a line is read as; nothing where its type is not allowed.
 pub enum Reading {
@@ -32,14 +22,15 @@ const DETAIL: u8 = b'3';
 
 const LETTER_Z: u8 = b'Z';
 
-pub(crate) fn is_ended(phase: Phase) -> bool
+// Whether the file trailer was accepted.
+pub fn is_ended(phase: Phase) -> bool
     ensures { λ r. ⌜ r ≡ ended phase ⌝ }
 {
     match phase {
         Phase::Start => false,
         Phase::Headed => false,
         Phase::Opened => false,
-        Phase::Begun => false,
+        Phase::Within(_) => false,
         Phase::Paid => false,
         Phase::BehindZ => false,
         Phase::Closed => false,
@@ -47,41 +38,36 @@ pub(crate) fn is_ended(phase: Phase) -> bool
     }
 }
 
-// The phase behind a line.
-pub(crate) fn phase_after(which: Record) -> Phase
-    ensures { λ r. ⌜ r ≡ after which ⌝ }
+// The record at a position of two, from 0 on; behind the last there is none.
+fn of_two(position: u8, first: Record, second: Record) -> Reading
+    ensures { λ r. ⌜ r ≡ readingOf (take 1 (drop position (first ∷ second ∷ []))) ⌝ }
 {
-    match which {
-        Record::FileHeader => Phase::Headed,
-        Record::BatchHeader => Phase::Opened,
-        Record::SegmentA => Phase::Begun,
-        Record::SegmentB => Phase::Paid,
-        Record::SegmentJ => Phase::Begun,
-        Record::SegmentJ52 => Phase::Paid,
-        Record::SegmentZ => Phase::BehindZ,
-        Record::BatchTrailer => Phase::Closed,
-        Record::FileTrailer => Phase::Ended,
+    match position {
+        0 => Reading::Line(first),
+        1 => Reading::Line(second),
+        _ => Reading::Nothing,
     }
 }
 
-// The first record of a payment, and the second.
-fn first_of(batch: Batch) -> Reading
-    ensures { λ r. ⌜ r ≡ readingOf (first batch) ⌝ }
+// The record at a position of a payment.
+pub fn record_at(batch: Batch, position: u8) -> Reading
+    ensures { λ r. ⌜ r ≡ readingOf (recordAt position batch) ⌝ }
 {
     match batch {
-        Batch::Credit => Reading::Line(Record::SegmentA),
-        Batch::Boleto => Reading::Line(Record::SegmentJ),
+        Batch::Credit => of_two(position, Record::SegmentA, Record::SegmentB),
+        Batch::Boleto => of_two(position, Record::SegmentJ, Record::SegmentJ52),
         Batch::Unknown => Reading::Nothing,
     }
 }
 
-fn second_of(batch: Batch) -> Reading
-    ensures { λ r. ⌜ r ≡ readingOf (second batch) ⌝ }
+// How many records a payment has, a Z behind them not counted.
+pub fn records_of(batch: Batch) -> u8
+    ensures { λ r. ⌜ r ≡ length (payment batch) ⌝ }
 {
     match batch {
-        Batch::Credit => Reading::Line(Record::SegmentB),
-        Batch::Boleto => Reading::Line(Record::SegmentJ52),
-        Batch::Unknown => Reading::Nothing,
+        Batch::Credit => 2,
+        Batch::Boleto => 2,
+        Batch::Unknown => 0,
     }
 }
 
@@ -102,16 +88,16 @@ fn detail_reading(phase: Phase, dir: Direction, batch: Batch, segment: u8) -> Re
     match phase {
         Phase::Start => Reading::Nothing,
         Phase::Headed => Reading::Nothing,
-        Phase::Opened => first_of(batch),
-        Phase::Begun => second_of(batch),
+        Phase::Opened => record_at(batch, 0),
+        Phase::Within(position) => record_at(batch, position),
         Phase::Paid => {
             if may_have_z(dir) & (segment == LETTER_Z) {
                 Reading::Line(Record::SegmentZ)
             } else {
-                first_of(batch)
+                record_at(batch, 0)
             }
         }
-        Phase::BehindZ => first_of(batch),
+        Phase::BehindZ => record_at(batch, 0),
         Phase::Closed => Reading::Nothing,
         Phase::Ended => Reading::Nothing,
     }
@@ -135,7 +121,7 @@ fn end_reading(phase: Phase, kind: u8) -> Reading
         Phase::Start => line_if(kind == b'0', Record::FileHeader),
         Phase::Headed => line_if(kind == b'1', Record::BatchHeader),
         Phase::Opened => Reading::Nothing,
-        Phase::Begun => Reading::Nothing,
+        Phase::Within(_) => Reading::Nothing,
         Phase::Paid => line_if(kind == b'5', Record::BatchTrailer),
         Phase::BehindZ => line_if(kind == b'5', Record::BatchTrailer),
         Phase::Closed => {

@@ -1,21 +1,24 @@
 // What lines count: batches, records, payments and cents.
-use super::places;
 use answer::Cents;
 use answer::RecordCount;
-use layout::Record;
+use layout::Amount;
+use layout::LineType;
+use layout::Shape;
+use layout::places;
 ghost use mathlib.Core.Path.{_≡_};
 ghost use Prim.Native.Nat.{_+_, _-_, _≤_, _<_, _^_};
 ghost use lib.ListN.{length, take, drop};
 ghost use Rattle.digits.specs.Numbers.{value};
 ghost use Rattle.layout.specs.Table.{recordBytes};
-ghost use Rattle.checker.specs.Totals.{totals, none, add, batchesOf, paymentsOf, centsOf, counts, amountDigits};
+ghost use Rattle.layout.specs.Records.{amountField};
+ghost use Rattle.checker.specs.Totals.{totals, none, add, batchCount, recordCount, paymentCount, centSum, opens, centsIn, countsBy, amountDigits};
 ghost use Rattle.checker.specs.inner.Steps.{FitSum};
 
 pub struct Totals {
-    pub batches: u64,
-    pub records: RecordCount,
-    pub payments: u64,
-    pub cents: Cents,
+    pub(crate) batches: u64,
+    pub(crate) records: RecordCount,
+    pub(crate) payments: u64,
+    pub(crate) cents: Cents,
 }
 
 const AMOUNT_DIGITS: usize = 15;
@@ -30,6 +33,34 @@ pub(crate) fn amount(rec: &[u8], place: usize) -> Cents
 }
 
 impl Totals {
+    // The batches.
+    pub fn batches(self) -> u64
+        ensures { λ r. ⌜ r ≡ batchCount self ⌝ }
+    {
+        self.batches
+    }
+
+    // The records, with headers and trailers.
+    pub fn records(self) -> RecordCount
+        ensures { λ r. ⌜ r .0 ≡ recordCount self ⌝ }
+    {
+        self.records
+    }
+
+    // The payments.
+    pub fn payments(self) -> u64
+        ensures { λ r. ⌜ r ≡ paymentCount self ⌝ }
+    {
+        self.payments
+    }
+
+    // The sum of their amounts.
+    pub fn cents(self) -> Cents
+        ensures { λ r. ⌜ r .0 ≡ centSum self ⌝ }
+    {
+        self.cents
+    }
+
     pub(crate) fn of(batches: u64, records: RecordCount, payments: u64, cents: Cents) -> Totals
         ensures { λ r. ⌜ r ≡ totals batches (records .0) payments (cents .0) ⌝ }
     {
@@ -60,66 +91,51 @@ impl Totals {
     }
 }
 
-fn batches_of(which: Record) -> u64
-    ensures { λ r. ⌜ r ≡ batchesOf which ⌝ }
+fn batches_by(line: LineType) -> u64
+    ensures { λ r. ⌜ r ≡ opens line ⌝ }
 {
-    match which {
-        Record::FileHeader => 0,
-        Record::BatchHeader => 1,
-        Record::SegmentA => 0,
-        Record::SegmentB => 0,
-        Record::SegmentJ => 0,
-        Record::SegmentJ52 => 0,
-        Record::SegmentZ => 0,
-        Record::BatchTrailer => 0,
-        Record::FileTrailer => 0,
+    match line {
+        LineType::FileFirst => 0,
+        LineType::BatchFirst => 1,
+        LineType::Detail => 0,
+        LineType::BatchLast => 0,
+        LineType::FileLast => 0,
     }
 }
 
-// The payments that a line begins.
-pub(crate) fn payments_of(which: Record) -> u64
-    ensures { λ r. ⌜ (r ≡ paymentsOf which) × (r ≤ 1) ⌝ }
+// The payments that a line begins: one, if it has an amount.
+pub(crate) fn payments_by(amount: Amount) -> u64
+    ensures { λ r. ⌜ (r ≡ length (amountField amount)) × (r ≤ 1) ⌝ }
 {
-    match which {
-        Record::FileHeader => 0,
-        Record::BatchHeader => 0,
-        Record::SegmentA => 1,
-        Record::SegmentB => 0,
-        Record::SegmentJ => 1,
-        Record::SegmentJ52 => 0,
-        Record::SegmentZ => 0,
-        Record::BatchTrailer => 0,
-        Record::FileTrailer => 0,
+    match amount {
+        Amount::NoAmount => 0,
+        Amount::AmountOfA => 1,
+        Amount::AmountOfJ => 1,
     }
 }
 
-// The amount of a payment stands in its first record.
-fn cents_of(which: Record, rec: &[u8]) -> Cents
+fn cents_by(kind: Amount, rec: &[u8]) -> Cents
     requires { ⌜ length (now rec) ≡ recordBytes ⌝ }
-    ensures { λ r. ⌜ r .0 ≡ centsOf which (now (rec .entry)) ⌝ }
+    ensures { λ r. ⌜ r .0 ≡ centsIn (amountField kind) (now (rec .entry)) ⌝ }
 {
-    match which {
-        Record::FileHeader => Cents(0),
-        Record::BatchHeader => Cents(0),
-        Record::SegmentA => amount(rec, places::CREDIT_AMOUNT),
-        Record::SegmentB => Cents(0),
-        Record::SegmentJ => amount(rec, places::BOLETO_AMOUNT),
-        Record::SegmentJ52 => Cents(0),
-        Record::SegmentZ => Cents(0),
-        Record::BatchTrailer => Cents(0),
-        Record::FileTrailer => Cents(0),
+    match kind {
+        Amount::NoAmount => Cents(0),
+        Amount::AmountOfA => amount(rec, places::CREDIT_AMOUNT),
+        Amount::AmountOfJ => amount(rec, places::BOLETO_AMOUNT),
     }
 }
 
-// What a line counts.
-pub(crate) fn counted(which: Record, rec: &[u8]) -> Totals
+// What a line counts, by its row.
+pub(crate) fn counted(shape: Shape, rec: &[u8]) -> Totals
     requires { ⌜ length (now rec) ≡ recordBytes ⌝ }
-    ensures { λ r. ⌜ r ≡ counts which (now (rec .entry)) ⌝ }
+    ensures { λ r. ⌜ r ≡ countsBy shape (now (rec .entry)) ⌝ }
 {
+    let line = shape.line;
+    let amount = shape.amount;
     Totals::of(
-        batches_of(which),
+        batches_by(line),
         RecordCount(1),
-        payments_of(which),
-        cents_of(which, rec),
+        payments_by(amount),
+        cents_by(amount, rec),
     )
 }

@@ -34,7 +34,7 @@ fn check(buf: &mut [u8])
         match input::fill(buf) {
             Input::Full => {}
             Input::Ended(n) => {
-                Line::of_outcome(state.finish(&buf[..n])).print();
+                Line::of_outcome(files::finish(state, &buf[..n])).print();
                 return;
             }
             Input::Failed => {
@@ -42,7 +42,7 @@ fn check(buf: &mut [u8])
                 return;
             }
         }
-        let stepped = state.run(buf);
+        let stepped = files::run(state, buf);
         let answer = stepped.answer;
         if !answer.is_accepted() {
             Line::of_answer(answer).print();

@@ -4,10 +4,9 @@ use mathlib.Core.List.{List}
 use Prim.Native.Nat.{ℕ}
 use native.Mathlib.Omega.{arith}
 use lib.Dec.{T}
-use Rattle.layout.specs.inner.Lent.{kindOf, contentOf, fillOf}
-use Rattle.layout.specs.Table.{Kind}
+use Rattle.layout.specs.inner.Lent.{kindOf, contentOf, fillOf, mayBe}
+use Rattle.layout.specs.Field.{Kind}
 use Rattle.layout.specs.Kinds.{asNumber, asBytes, asFixed, means}
-use Rattle.layout.specs.inner.Steps.{mayBe}
 use Rattle.layout.specs.laws.Contents.{Filled, a-number, its-text, fixed, filled}
 use Rattle.layout.specs.declared.fixed.Content.{Content}
 use Rattle.layout.specs.declared.kinds.Fill.{Fill}

@@ -1,12 +1,12 @@
 -- Records that are made: room for one, its length, and the rules behind its answer. Assumes nothing.
-use mathlib.Core.Path.{_≡_, refl, sym, _∙_}
+use mathlib.Core.Path.{_≡_, sym, _∙_}
 use mathlib.Core.List.{List, [], _∷_, _++_}
 use Prim.Native.Nat.{ℕ, _+_, _-_, _≤_}
 use native.Mathlib.Omega.{arith}
 use borrow.Author.Tests.{leb-true}
 use lib.ListN.{length, drop, length-append, length-drop}
 use Rattle.answer.specs.Rules.{firstBroken, AllKept, andThen}
-use Rattle.answer.specs.Output.{Writes, room, written}
+use Rattle.answer.specs.Output.{Writes, room}
 use Rattle.answer.specs.laws.Order.{accepted-kept, first-append, never-refused}
 use Rattle.answer.specs.declared.Refusal.{Refusal}
 use Rattle.answer.specs.declared.Answer.{Answer}

@@ -11,7 +11,8 @@ use lib.Seq.{take-at, drop-at, drop-drop, length-take-le, slice, slice-cons, sli
 use Rattle.digits.specs.Digits.{places}
 use Rattle.answer.specs.Output.{over}
 use Rattle.layout.specs.inner.Lent.{kindOf, fieldCount}
-use Rattle.layout.specs.Table.{Field, field, part, fieldsOf, recordBytes, tiles, none, all}
+use Rattle.layout.specs.Field.{Field, field, part, none}
+use Rattle.layout.specs.Table.{fieldsOf, recordBytes, tiles, all}
 use Rattle.layout.specs.Kinds.{means}
 use Rattle.layout.specs.laws.Tiling.{tiled, ends, All}
 use Rattle.layout.specs.laws.Sound.{width, Sound, sounds}

@@ -8,7 +8,8 @@ use native.Mathlib.Omega.{arith}
 use lib.ListN.{length, take, drop, set, replicate, length-set, take-append-drop}
 use lib.Seq.{slice, slice-cons, slice-empty, take-suc-set, drop-set-lt}
 use Rattle.layout.specs.inner.Lent.{kindOf, fieldCount}
-use Rattle.layout.specs.Table.{Field, part, fieldsOf, none, all}
+use Rattle.layout.specs.Field.{Field, part, none}
+use Rattle.layout.specs.Table.{fieldsOf, all}
 use Rattle.layout.specs.Kinds.{means}
 use Rattle.layout.specs.laws.Columns.{Stands, all-length}
 use Rattle.layout.specs.declared.Record.{Record}

@@ -2,10 +2,10 @@
 use mathlib.Core.Path.{_≡_}
 use mathlib.Core.Bool.{Bool, true, false, cond, _&&_}
 use mathlib.Core.List.{List, [], _∷_, _++_}
-use Prim.Native.Nat.{ℕ, _-_}
+use Prim.Native.Nat.{ℕ, _-_, suc}
 use lib.Dec.{ltb, eqb}
 use lib.ListN.{length, getD, take, drop, set, replicate}
-use Rattle.answer.specs.Rules.{firstBroken, andThen}
+use Rattle.answer.specs.Rules.{firstBroken, andThen, refusedAs}
 use Rattle.answer.specs.declared.Answer.{Answer}
 use Rattle.answer.specs.declared.Answer.the-variants.{Accepted, Refused}
 use Rattle.digits.specs.Numbers.{numberOf, numeral}
@@ -13,11 +13,14 @@ use Rattle.digits.specs.declared.spelling.Number.{Number}
 use Rattle.digits.specs.declared.spelling.Number.the-variants.{Is, Not}
 use Rattle.answer.specs.Output.{room, written, over}
 use Rattle.answer.specs.Sums.{largest}
-use Rattle.layout.specs.Table.{Field, part, code, fieldsOf, recordBytes, none}
+use Rattle.layout.specs.Field.{Field, part, none}
+use Rattle.layout.specs.Records.{code}
+use Rattle.layout.specs.Table.{fieldsOf, recordBytes, segmentPlace}
 use Rattle.layout.specs.Kinds.{Held, asNumber, asBytes, asFixed, means, blank}
 use Rattle.layout.specs.Record.{recordRules}
 use Rattle.layout.specs.declared.Direction.{Direction}
 use Rattle.layout.specs.declared.Record.{Record}
+use Rattle.layout.specs.declared.Record.the-variants.{SegmentZ}
 use Rattle.layout.specs.declared.names.Name.{Name}
 use Rattle.fields.specs.declared.Fields.{Fields}
 use Rattle.fields.specs.declared.RecordRead.{RecordRead}
@@ -96,6 +99,10 @@ noFields r = allAs 0 0 r
 abbrev pub blankFields : Record → Fields
 blankFields r = allAs 0 blank r
 
+-- what is made of a Z of which nothing is given (the law `none-made`): its first byte behind the letter is not printable
+abbrev pub notMade : Made
+notMade = record { answer = refusedAs 4 (suc segmentPlace); fields = noFields SegmentZ; bytes = replicate recordBytes 0 }
+
 abbrev pub fieldsIf : Answer → Fields → Record → Fields
 fieldsIf Accepted v r = v
 fieldsIf (Refused x) v r = noFields r
@@ -163,3 +170,10 @@ textWith r j bs text = cond (ltb j (length (fieldsOf r))) (overField (getD (fiel
 abbrev pub withText : Name → List ℕ → Fields → Fields
 withText name bs v =
     unlessSpoiled (isOf (name .0) v) (v .which) (record { which = v .which; numbers = v .numbers; text = textWith (v .which) (name .1) bs (v .text) })
+
+-- ---- whole ones
+
+-- the arrays of fields have their lengths, as those of every value that a call is given
+pub record Whole (v : Fields) : Type 0 where
+  pub numbers : length (v .numbers) ≡ mostFields
+  pub text : length (v .text) ≡ recordBytes

@@ -8,3 +8,4 @@ pub mod Wide
 pub mod Marks
 pub mod Spoiled
 pub mod Named
+pub mod NotMade

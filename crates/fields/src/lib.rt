@@ -78,7 +78,7 @@ impl Fields {
         ensures { λ r. ⌜ r ≡ isOf which self ⌝ }
     {
         let own = self.which;
-        layout::row_of(own) == layout::row_of(which)
+        layout::is_same(own, which)
     }
 
     // These fields, if they are of this record; if not, fields of it that every call refuses.
@@ -152,6 +152,7 @@ impl Fields {
         self.with_number(name, cents.0)
     }
 
+    // The same of a count of records.
     pub fn with_records(self, name: Name, records: RecordCount) -> Fields
         ensures { λ r. ⌜ r ≡ withNumber name (records .0) self ⌝ }
     {

@@ -60,10 +60,11 @@ fn text_of(rec: &[u8]) -> [u8; 240]
     text
 }
 
+// A record's fields, if the check of one record alone accepts it.
 pub fn read_record(rec: &[u8], which: Record, dir: Direction) -> RecordRead
     ensures { λ r. ⌜ r ≡ readRecord which dir (now (rec .entry)) ⌝ }
 {
-    let answer = layout::check_record(rec, which, dir);
+    let answer = walk::check_record(rec, which, dir);
     match answer {
         Answer::Refused(_) => {
             let fields = Fields::none(which);

@@ -2,10 +2,13 @@
 use super::Fields;
 use super::table::field_at;
 use answer::Answer;
+use answer::numbers;
 use layout::Direction;
 use layout::FIELDS;
 use layout::Fill;
 use layout::RECORD_BYTES;
+use layout::Record;
+use layout::places;
 ghost use mathlib.Core.Path.{_≡_};
 ghost use mathlib.Core.List.{_∷_, [], _++_};
 ghost use Prim.Native.Nat.{_≤_};
@@ -13,12 +16,11 @@ ghost use lib.Dec.{T as Holds};
 ghost use lib.ListN.{length, drop};
 ghost use Rattle.answer.specs.Rules.{firstBroken};
 ghost use Rattle.answer.specs.Output.{Writes};
-ghost use Rattle.layout.specs.inner.Lent.{kindOf, Columns};
+ghost use Rattle.layout.specs.inner.Lent.{kindOf, Columns, mayBe};
 ghost use Rattle.layout.specs.Table.{recordBytes};
 ghost use Rattle.layout.specs.Kinds.{means};
 ghost use Rattle.layout.specs.Record.{recordRules, byteRule};
-ghost use Rattle.layout.specs.inner.Steps.{mayBe};
-ghost use Rattle.fields.specs.Values.{rendered, recordOf, madeOf, Puts};
+ghost use Rattle.fields.specs.Values.{rendered, recordOf, madeOf, notMade, Puts};
 
 // One field, over its part of the output: the caller's number or text, or the fixed content.
 fn write_field(k: u8, n: u64, text: &[u8], part: &mut [u8])
@@ -76,8 +78,8 @@ fn bytes_of(v: Fields) -> [u8; 240]
     bytes
 }
 
-// A record that fields make: whether it is right, and if it is, its bytes. There is no other way to one
-// than to have it checked.
+// A record that fields make: whether it is right, and if it is, its bytes. There is no other way to a
+// right one than to have it checked.
 pub struct Made {
     answer: Answer,
     fields: Fields,
@@ -90,7 +92,7 @@ pub fn make_record(v: Fields, dir: Direction) -> Made
 {
     let which = v.which;
     let bytes = bytes_of(v);
-    let answer = layout::check_record(&bytes, which, dir);
+    let answer = walk::check_record(&bytes, which, dir);
     match answer {
         Answer::Accepted => Made {
             answer,
@@ -113,10 +115,23 @@ pub fn check_bytes(v: Fields) -> Answer
     ensures { λ r. ⌜ r ≡ firstBroken (byteRule (recordOf (v .which) v) ∷ []) ⌝ }
 {
     let bytes = bytes_of(v);
-    layout::check_bytes(&bytes)
+    walk::check_bytes(&bytes)
 }
 
 impl Made {
+    // What `make_record` makes of a Z of which nothing is given: refused at its first byte that is not
+    // printable. It stands where no record is made yet.
+    pub fn none() -> Made
+        ensures { λ r. ⌜ r ≡ notMade ⌝ }
+    {
+        let fields = Fields::none(Record::SegmentZ);
+        Made {
+            answer: Answer::refused(numbers::NOT_PRINTABLE, places::SEGMENT + 1),
+            fields,
+            bytes: [0u8; RECORD_BYTES],
+        }
+    }
+
     // The check's answer.
     pub fn answer(self) -> Answer
         ensures { λ r. ⌜ r ≡ self .answer ⌝ }

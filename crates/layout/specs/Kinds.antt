@@ -10,7 +10,8 @@ use Rattle.calendar.specs.Calendar.{dateFits, timeFits}
 use Rattle.boleto.specs.Strings.{currencyPlace}
 use Rattle.boleto.specs.Rules.{currencyFits}
 use Rattle.layout.specs.Pairs.{among, batchOf, known}
-use Rattle.layout.specs.Table.{Kind, N, Id, T, F, D, Time, K, O, Zeros, Exact, OneOf, Service, Form, Barcode, RecordType, Segment, part, serviceField, formField}
+use Rattle.layout.specs.Field.{Kind, N, Id, T, F, D, Time, K, O, Zeros, Exact, OneOf, Service, Form, Barcode, RecordType, Segment, part}
+use Rattle.layout.specs.Table.{serviceField, formField}
 use Rattle.layout.specs.declared.Direction.{Direction}
 use Rattle.layout.specs.declared.Direction.the-variants.{Remittance, Return}
 

@@ -1,4 +1,6 @@
 pub mod Pairs
+pub mod Field
+pub mod Records
 pub mod Table
 pub mod Names
 pub mod Kinds

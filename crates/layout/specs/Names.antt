@@ -3,7 +3,8 @@ use mathlib.Core.Bool.{cond}
 use mathlib.Core.List.{List, [], _∷_}
 use Prim.Native.Nat.{ℕ, suc}
 use lib.Dec.{ltb}
-use Rattle.layout.specs.Table.{Field, fieldsOf}
+use Rattle.layout.specs.Field.{Field}
+use Rattle.layout.specs.Table.{fieldsOf}
 use Rattle.layout.specs.declared.Record.{Record}
 use Rattle.layout.specs.declared.names.Name.{Name}
 

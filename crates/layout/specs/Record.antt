@@ -6,7 +6,8 @@ use lib.Dec.{leb, eqb}
 use lib.ListN.{length}
 use lib.Seq.{slice}
 use Rattle.answer.specs.Rules.{Rule, rule}
-use Rattle.layout.specs.Table.{Field, part, marks, fieldsOf, recordBytes}
+use Rattle.layout.specs.Field.{Field, part}
+use Rattle.layout.specs.Table.{marks, fieldsOf, recordBytes}
 use Rattle.layout.specs.Kinds.{Part, aPart, means}
 use Rattle.layout.specs.declared.Direction.{Direction}
 use Rattle.layout.specs.declared.Record.{Record}

@@ -1,92 +1,15 @@
 -- The layout table: the fields of each record, left to right, with their first and last places. Assumes nothing.
-use mathlib.Core.Bool.{Bool, false, _&&_, _||_}
+use mathlib.Core.Bool.{Bool, cond, _&&_}
 use mathlib.Core.List.{List, [], _∷_, _++_}
 use Prim.Native.Nat.{ℕ, suc}
 use lib.Dec.{leb, eqb}
-use Rattle.digits.specs.Digits.{digitByte, places}
+use Rattle.digits.specs.Digits.{digitByte}
+use Rattle.layout.specs.Field.{Kind, N, Id, T, F, D, Time, K, O, Zeros, Exact, OneOf, Service, Form, Barcode, RecordType, Segment, Field, field}
+use Rattle.layout.specs.Records.{shapeOf, records, isDetail, typeOf, letterOf, creditAmount, boletoAmount}
 use Rattle.layout.specs.declared.Record.{Record}
 use Rattle.layout.specs.declared.Record.the-variants.{FileHeader, BatchHeader, SegmentA, SegmentB, SegmentJ, SegmentJ52, SegmentZ, BatchTrailer, FileTrailer}
 
--- N digits; Id digits of a CPF or CNPJ number; T text; F any; D a date; Time; K blanks; O blanks in a remittance; zeros; exact content;
--- a domain; service and form; the barcode; the record's type and its segment
-pub data Kind : Type 0 where
-  N Id T F D Time K O Zeros Service Form Barcode : Kind
-  Exact OneOf : List ℕ → Kind
-  RecordType Segment : ℕ → Kind
-
-pub record Field : Type 0 where
-  pub from : ℕ
-  pub to : ℕ
-  pub kind : Kind
-
-abbrev pub field : ℕ → ℕ → Kind → Field
-field a b k = record { from = a; to = b; kind = k }
-
--- the bytes at a field's places
-abbrev pub part : Field → List ℕ → List ℕ
-part f rec = places (f .from) (f .to) rec
-
--- ---- what a record is known by
-
--- records, told apart
-abbrev pub code : Record → ℕ
-code FileHeader = 0
-code BatchHeader = 1
-code SegmentA = 2
-code SegmentB = 3
-code SegmentJ = 4
-code SegmentJ52 = 5
-code SegmentZ = 6
-code BatchTrailer = 7
-code FileTrailer = 8
-
-abbrev pub isOneOf : Record → List Record → Bool
-isOneOf r [] = false
-isOneOf r (q ∷ qs) = eqb (code r) (code q) || isOneOf r qs
-
-abbrev pub typeOf : Record → ℕ
-typeOf FileHeader = digitByte 0
-typeOf BatchHeader = digitByte 1
-typeOf SegmentA = digitByte 3
-typeOf SegmentB = digitByte 3
-typeOf SegmentJ = digitByte 3
-typeOf SegmentJ52 = digitByte 3
-typeOf SegmentZ = digitByte 3
-typeOf BatchTrailer = digitByte 5
-typeOf FileTrailer = digitByte 9
-
-abbrev pub typePlace : ℕ
-typePlace = 8
-
-abbrev pub typeField : Record → Field
-typeField r = field typePlace typePlace (RecordType (typeOf r))
-
-abbrev pub segmentPlace : ℕ
-segmentPlace = 14
-
--- Z is known by its letter
-abbrev pub letterZ : ℕ
-letterZ = 90
-
--- the letter of a detail: A 65, B 66, J 74, Z
-abbrev pub segmentField : ℕ → Field
-segmentField letter = field segmentPlace segmentPlace (Segment letter)
-
-abbrev pub segmentFields : Record → List Field
-segmentFields FileHeader = []
-segmentFields BatchHeader = []
-segmentFields SegmentA = segmentField 65 ∷ []
-segmentFields SegmentB = segmentField 66 ∷ []
-segmentFields SegmentJ = segmentField 74 ∷ []
-segmentFields SegmentJ52 = segmentField 74 ∷ []
-segmentFields SegmentZ = segmentField letterZ ∷ []
-segmentFields BatchTrailer = []
-segmentFields FileTrailer = []
-
-abbrev pub marks : Record → List Field
-marks r = typeField r ∷ segmentFields r
-
--- ---- the table
+-- ---- what lines begin with
 
 -- all lines
 abbrev pub bankField : Field
@@ -95,8 +18,39 @@ bankField = field 1 3 N
 abbrev pub batchField : Field
 batchField = field 4 7 N
 
+abbrev pub typePlace : ℕ
+typePlace = 8
+
+abbrev pub typeField : Record → Field
+typeField r = field typePlace typePlace (RecordType (typeOf r))
+
 abbrev pub line : Record → List Field
 line r = bankField ∷ batchField ∷ typeField r ∷ []
+
+-- all details, and no other line
+abbrev pub inDetails : Record → List Field → List Field
+inDetails r fs = cond (isDetail (shapeOf r .line)) fs []
+
+abbrev pub numberField : Field
+numberField = field 9 13 N
+
+abbrev pub segmentPlace : ℕ
+segmentPlace = 14
+
+abbrev pub segmentField : ℕ → Field
+segmentField letter = field segmentPlace segmentPlace (Segment letter)
+
+abbrev pub segmentFields : Record → List Field
+segmentFields r = inDetails r (segmentField (letterOf r) ∷ [])
+
+abbrev pub detail : Record → List Field
+detail r = inDetails r (numberField ∷ segmentField (letterOf r) ∷ [])
+
+-- what a record is known by
+abbrev pub marks : Record → List Field
+marks r = typeField r ∷ segmentFields r
+
+-- ---- fields with a name, and kinds
 
 -- domains
 abbrev pub zeroOneTwo : Kind
@@ -124,13 +78,6 @@ company =
     field 18 18 zeroOneTwo ∷ field 19 32 Id ∷ field 33 52 T ∷ field 53 57 N ∷ field 58 58 F ∷ field 59 70 N ∷ field 71 71 F ∷ field 72 72 F
     ∷ field 73 102 T ∷ []
 
--- all details
-abbrev pub numberField : Field
-numberField = field 9 13 N
-
-abbrev pub detail : Record → List Field
-detail r = line r ++ numberField ∷ segmentFields r
-
 -- service and form
 abbrev pub serviceField : Field
 serviceField = field 10 11 Service
@@ -142,10 +89,7 @@ formField = field 12 13 Form
 abbrev pub directionField : Field
 directionField = field 143 143 oneTwo
 
--- the amount of a payment, in A and in J, and what else a boleto pays by
-abbrev pub creditAmount : Field
-creditAmount = field 120 134 N
-
+-- what a boleto pays by, beside its amount
 abbrev pub barcodeField : Field
 barcodeField = field 18 61 Barcode
 
@@ -161,9 +105,6 @@ discountField = field 115 129 N
 abbrev pub fineField : Field
 fineField = field 130 144 N
 
-abbrev pub boletoAmount : Field
-boletoAmount = field 153 167 N
-
 -- counts and sum of the trailers
 abbrev pub batchRecords : Field
 batchRecords = field 18 23 N
@@ -177,39 +118,38 @@ fileBatches = field 18 23 N
 abbrev pub fileRecords : Field
 fileRecords = field 24 29 N
 
-unfoldable pub fieldsOf : Record → List Field
-fieldsOf FileHeader =
-    line FileHeader ++ field 9 17 K ∷ company
+-- ---- the table
+
+-- the fields of each record behind what all lines and all details begin with
+abbrev pub own : Record → List Field
+own FileHeader =
+    field 9 17 K ∷ company
     ++ field 103 132 T ∷ field 133 142 K ∷ directionField ∷ field 144 151 D ∷ field 152 157 Time ∷ field 158 163 N ∷ field 164 166 N
     ∷ field 167 171 N ∷ field 172 240 F ∷ []
-fieldsOf BatchHeader =
-    line BatchHeader ++ field 9 9 exactC ∷ serviceField ∷ formField ∷ field 14 16 N ∷ field 17 17 K ∷ company
+own BatchHeader =
+    field 9 9 exactC ∷ serviceField ∷ formField ∷ field 14 16 N ∷ field 17 17 K ∷ company
     ++ field 103 142 T ∷ field 143 172 T ∷ field 173 177 F ∷ field 178 192 T ∷ field 193 212 T ∷ field 213 230 F ∷ field 231 240 O ∷ []
-fieldsOf SegmentA =
-    detail SegmentA
-    ++ field 15 15 zeroNine ∷ field 16 17 N ∷ field 18 20 N ∷ field 21 23 N ∷ field 24 28 N ∷ field 29 29 F ∷ field 30 41 N ∷ field 42 42 F
+own SegmentA =
+    field 15 15 zeroNine ∷ field 16 17 N ∷ field 18 20 N ∷ field 21 23 N ∷ field 24 28 N ∷ field 29 29 F ∷ field 30 41 N ∷ field 42 42 F
     ∷ field 43 43 F ∷ field 44 73 T ∷ field 74 93 T ∷ field 94 101 D ∷ field 102 104 F ∷ field 105 119 N ∷ creditAmount ∷ field 135 154 F
     ∷ field 155 162 N ∷ field 163 177 N ∷ field 178 230 F ∷ field 231 240 O ∷ []
-fieldsOf SegmentB = detail SegmentB ++ field 15 17 F ∷ field 18 18 zeroOneTwo ∷ field 19 32 Id ∷ field 33 240 F ∷ []
-fieldsOf SegmentJ =
-    detail SegmentJ
-    ++ field 15 15 zeroNine ∷ field 16 17 N ∷ barcodeField ∷ field 62 91 T ∷ dueField ∷ nominalField ∷ discountField ∷ fineField
+own SegmentB = field 15 17 F ∷ field 18 18 zeroOneTwo ∷ field 19 32 Id ∷ field 33 240 F ∷ []
+own SegmentJ =
+    field 15 15 zeroNine ∷ field 16 17 N ∷ barcodeField ∷ field 62 91 T ∷ dueField ∷ nominalField ∷ discountField ∷ fineField
     ∷ field 145 152 D ∷ boletoAmount ∷ field 168 182 Zeros ∷ field 183 202 T ∷ field 203 222 F ∷ field 223 224 exact09
     ∷ field 225 230 K ∷ field 231 240 O ∷ []
-fieldsOf SegmentJ52 =
-    detail SegmentJ52
-    ++ field 15 15 K ∷ field 16 17 N ∷ field 18 19 exact52 ∷ field 20 20 zeroOneTwo ∷ field 21 35 Id ∷ field 36 75 T ∷ field 76 76 zeroOneTwo
+own SegmentJ52 =
+    field 15 15 K ∷ field 16 17 N ∷ field 18 19 exact52 ∷ field 20 20 zeroOneTwo ∷ field 21 35 Id ∷ field 36 75 T ∷ field 76 76 zeroOneTwo
     ∷ field 77 91 Id ∷ field 92 131 T ∷ field 132 132 zeroOneTwo ∷ field 133 147 Id ∷ field 148 187 T ∷ field 188 240 K ∷ []
-fieldsOf SegmentZ = detail SegmentZ ++ field 15 240 F ∷ []
-fieldsOf BatchTrailer =
-    line BatchTrailer
-    ++ field 9 17 K ∷ batchRecords ∷ batchSum ∷ field 42 59 N ∷ field 60 65 N ∷ field 66 230 K ∷ field 231 240 O ∷ []
-fieldsOf FileTrailer = line FileTrailer ++ field 9 17 K ∷ fileBatches ∷ fileRecords ∷ field 30 35 N ∷ field 36 240 K ∷ []
+own SegmentZ = field 15 240 F ∷ []
+own BatchTrailer =
+    field 9 17 K ∷ batchRecords ∷ batchSum ∷ field 42 59 N ∷ field 60 65 N ∷ field 66 230 K ∷ field 231 240 O ∷ []
+own FileTrailer = field 9 17 K ∷ fileBatches ∷ fileRecords ∷ field 30 35 N ∷ field 36 240 K ∷ []
+
+unfoldable pub fieldsOf : Record → List Field
+fieldsOf r = line r ++ (detail r ++ own r)
 
 -- the whole table: the records one after the other
-abbrev pub records : List Record
-records = FileHeader ∷ BatchHeader ∷ SegmentA ∷ SegmentB ∷ SegmentJ ∷ SegmentJ52 ∷ SegmentZ ∷ BatchTrailer ∷ FileTrailer ∷ []
-
 unfoldable pub fieldsOfEach : List Record → List Field
 fieldsOfEach [] = []
 fieldsOfEach (r ∷ rs) = fieldsOf r ++ fieldsOfEach rs
@@ -226,7 +166,3 @@ recordBytes = 240
 unfoldable pub tiles : ℕ → List Field → Bool
 tiles p [] = eqb p (suc recordBytes)
 tiles p (f ∷ fs) = eqb (f .from) p && (leb p (f .to) && tiles (suc (f .to)) fs)
-
--- stands for a field past the table's end
-abbrev pub none : Field
-none = field 0 0 N

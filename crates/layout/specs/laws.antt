@@ -1,8 +1,8 @@
 -- What is proved of the definitions, for other crates to cite.
+pub mod Records
 pub mod Bytes
 pub mod Tiling
 pub mod Sound
 pub mod Contents
 pub mod Columns
-pub mod Masks
 pub mod Indexes

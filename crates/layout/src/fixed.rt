@@ -3,9 +3,9 @@ ghost use mathlib.Core.Path.{_≡_};
 ghost use lib.ListN.{length, getD};
 ghost use Rattle.layout.specs.inner.Lent.{byteAt, contentOf};
 
-pub(crate) const BLANK: u8 = b' ';
+pub const BLANK: u8 = b' ';
 
-pub(crate) const ZERO: u8 = b'0';
+pub const ZERO: u8 = b'0';
 
 const LETTER_C: [u8; 1] = *b"C";
 
@@ -30,7 +30,7 @@ fn byte_in(text: &[u8], i: usize) -> u8
 
 impl Content {
     // The byte that has to stand at a place of the field, counted from 0.
-    pub(crate) fn byte_at(self, i: usize) -> u8
+    pub fn byte_at(self, i: usize) -> u8
         ensures { λ r. ⌜ r ≡ byteAt self i ⌝ }
     {
         match self {

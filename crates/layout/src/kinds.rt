@@ -12,47 +12,47 @@ pub enum Fill {
     Fixed(Content),
 }
 
-pub(crate) const N: u8 = 0;
+pub const N: u8 = 0;
 
 // From here to T: a rule for the field as a whole. All others have a rule for each byte alone, or none.
-pub(crate) const D: u8 = 1;
+pub const D: u8 = 1;
 
-pub(crate) const TIME: u8 = 2;
+pub const TIME: u8 = 2;
 
-pub(crate) const ZERO_NINE: u8 = 3;
+pub const ZERO_NINE: u8 = 3;
 
-pub(crate) const SERVICE: u8 = 4;
+pub const SERVICE: u8 = 4;
 
-pub(crate) const BARCODE: u8 = 5;
+pub const BARCODE: u8 = 5;
 
-pub(crate) const T: u8 = 6;
+pub const T: u8 = 6;
 
-pub(crate) const FORM: u8 = 7;
+pub const FORM: u8 = 7;
 
-pub(crate) const ZERO_ONE_TWO: u8 = 8;
+pub const ZERO_ONE_TWO: u8 = 8;
 
-pub(crate) const ONE_TWO: u8 = 9;
+pub const ONE_TWO: u8 = 9;
 
-pub(crate) const ID: u8 = 10;
+pub const ID: u8 = 10;
 
-pub(crate) const O: u8 = 11;
+pub const O: u8 = 11;
 
 // Fixed content. A type and a segment are named by their byte, from 0 to Z.
-pub(crate) const K: u8 = 12;
+pub const K: u8 = 12;
 
-pub(crate) const ZEROS: u8 = 13;
+pub const ZEROS: u8 = 13;
 
-pub(crate) const EXACT_C: u8 = 14;
+pub const EXACT_C: u8 = 14;
 
-pub(crate) const EXACT_09: u8 = 15;
+pub const EXACT_09: u8 = 15;
 
-pub(crate) const EXACT_52: u8 = 16;
+pub const EXACT_52: u8 = 16;
 
 // Any other number.
-pub(crate) const F: u8 = 17;
+pub const F: u8 = 17;
 
 // Whether the kind's rule is one for the field as a whole.
-pub(crate) fn is_whole(k: u8) -> bool
+pub fn is_whole(k: u8) -> bool
     ensures { λ r. ⌜ r ≡ whole? k ⌝ }
 {
     (D <= k) & (k <= T)

@@ -22,7 +22,8 @@ fn boleto_service(dir: Direction) -> u64
     }
 }
 
-fn batch_with(dir: Direction, service: u64, form: u64) -> Batch
+// The kind of batch of a service and a form.
+pub fn batch_with(dir: Direction, service: u64, form: u64) -> Batch
     ensures { λ r. ⌜ r ≡ batchAmong (pairs dir) (Is service) (Is form) ⌝ }
 {
     let credit_form = (form == 1) | ((form == 10) | ((form == 41) | (form == 45)));

@@ -19,9 +19,8 @@ use super::kinds::TIME;
 use super::kinds::ZERO_NINE;
 use super::kinds::ZERO_ONE_TWO;
 use super::kinds::ZEROS;
+use super::shapes::shape_of;
 ghost use mathlib.Core.Path.{_≡_};
-ghost use Prim.Native.Nat.{_<_};
-ghost use Rattle.layout.specs.Table.{code};
 ghost use Rattle.layout.specs.inner.Lent.{spanOf, inColumn, entryIn};
 
 pub const FIELDS: usize = 143;
@@ -506,35 +505,19 @@ pub struct Entry {
     pub kind: u8,
 }
 
-// The number of a record, which is its row in START.
-pub fn row_of(which: Record) -> usize
-    ensures { λ r. ⌜ (r ≡ code which) × (r < 9) ⌝ }
-{
-    match which {
-        Record::FileHeader => 0,
-        Record::BatchHeader => 1,
-        Record::SegmentA => 2,
-        Record::SegmentB => 3,
-        Record::SegmentJ => 4,
-        Record::SegmentJ52 => 5,
-        Record::SegmentZ => 6,
-        Record::BatchTrailer => 7,
-        Record::FileTrailer => 8,
-    }
-}
-
 // Where a record's fields stand in the table.
 pub fn span_of(which: Record) -> Span
     ensures { λ r. ⌜ r ≡ spanOf which ⌝ }
 {
-    let n = row_of(which);
+    let n = shape_of(which).code;
     Span {
         first: START[n],
         past: START[n + 1],
     }
 }
 
-pub(crate) fn wide(b: u8) -> usize
+// A byte as a number of the machine's width.
+pub fn wide(b: u8) -> usize
     ensures { λ r. ⌜ r ≡ b ⌝ }
 {
     b as usize

@@ -89,7 +89,7 @@ fn write_file(out: &mut [u8]) {
 
 fn write_and_read(file: &mut [u8]) {
     write_file(file);
-    Line::of_outcome(checker::check_file(file)).print();
+    Line::of_outcome(files::check_file(file)).print();
 }
 
 fn main() {

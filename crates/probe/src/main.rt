@@ -16,11 +16,11 @@
 // Two more steps are no calls: M and six digits, from where on calls are lent so many bytes of the
 // output memory, or all it has; X and a byte, with which the whole of it is overwritten. There is a
 // line for each call, of an accepted E as of F, and then the output memory.
-mod files;
 mod header;
 mod print;
 mod records;
 mod scripts;
+mod whole;
 
 use header::Op;
 use libc::STDIN_FILENO;
@@ -55,8 +55,8 @@ fn call(op: Op, payload: &[u8], out: &mut [u8]) {
         Op::LineToBarcode => print::memory(boleto::line_to_barcode(payload, out), out),
         Op::ReadRecord(which, dir) => records::read(payload, which, dir),
         Op::WriteRecord(which, dir) => records::write(payload, which, dir, out),
-        Op::CheckFile => files::check(payload),
-        Op::StepLines => files::step_lines(payload),
+        Op::CheckFile => whole::check(payload),
+        Op::StepLines => whole::step_lines(payload),
         Op::Script => scripts::run(payload, out),
         Op::Malformed => print::malformed(),
     }

@@ -1,6 +1,6 @@
 // Replies, on standard output.
 use answer::Answer;
-use checker::Outcome;
+use files::Outcome;
 use libc::STDOUT_FILENO;
 use reply::Line;
 

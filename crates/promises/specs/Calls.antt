@@ -15,7 +15,9 @@ use Rattle.answer.specs.declared.Answer.the-variants.{Accepted, Refused}
 use Rattle.boleto.specs.Strings.{barcodeDigits, lineDigits, currencyPlace, barcodeCheck, lineCheck, barcodeOf, digitLineOf}
 use Rattle.boleto.specs.Rules.{barcodeRules, digitLineRules}
 use Rattle.layout.specs.Pairs.{among}
-use Rattle.layout.specs.Table.{Field, recordBytes, typePlace, segmentPlace, bankField, batchField, numberField, boletoAmount, batchRecords, batchSum, fileRecords, all}
+use Rattle.layout.specs.Field.{Field}
+use Rattle.layout.specs.Table.{recordBytes, typePlace, segmentPlace, bankField, batchField, numberField, batchRecords, batchSum, fileRecords, all}
+use Rattle.layout.specs.Records.{boletoAmount}
 use Rattle.layout.specs.Record.{recordRules}
 use Rattle.layout.specs.declared.Direction.{Direction}
 use Rattle.layout.specs.declared.Record.{Record}
@@ -23,13 +25,13 @@ use Rattle.fields.specs.Values.{recordOf, readRecord, noFields}
 use Rattle.fields.specs.declared.Fields.{Fields}
 use Rattle.checker.specs.Line.{lineBytes, generalPlace, factorPlace, centsPlace}
 use Rattle.checker.specs.Machine.{start, lineOf, stepOf}
-use Rattle.checker.specs.File.{linesOf, steps, run, finish}
+use Rattle.files.specs.File.{linesOf, steps, run, finish}
 use Rattle.checker.specs.Calls.{Reached, Through}
 use Rattle.checker.specs.declared.totals.Totals.{Totals}
 use Rattle.checker.specs.declared.Checker.{Checker}
 use Rattle.checker.specs.declared.Stepped.{Stepped}
-use Rattle.checker.specs.declared.file.Outcome.{Outcome}
-use Rattle.checker.specs.declared.file.Outcome.the-variants as outcome
+use Rattle.files.specs.declared.Outcome.{Outcome}
+use Rattle.files.specs.declared.Outcome.the-variants as outcome
 use Rattle.writer.specs.Given.{Call, recordsOf}
 use Rattle.writer.specs.Outcome.{newWriter, Wrote}
 use Rattle.writer.specs.Calls.{AllWhole, Lent, WholeCalls, left}

@@ -11,11 +11,11 @@ use Rattle.answer.specs.declared.Answer.the-variants as answer
 use Rattle.digits.specs.Digits.{place}
 use Rattle.boleto.specs.Strings.{barcodeDigits, lineDigits}
 use Rattle.boleto.specs.Rules.{barcodeRules, digitLineRules}
-use Rattle.checker.specs.File.{checkFile}
-use Rattle.checker.specs.declared.order.Phase.the-variants.{Ended}
+use Rattle.files.specs.File.{checkFile}
+use Rattle.layout.specs.declared.shapes.Phase.the-variants.{Ended}
 use Rattle.checker.specs.declared.totals.Totals.{Totals}
-use Rattle.checker.specs.declared.file.Outcome.{Outcome}
-use Rattle.checker.specs.declared.file.Outcome.the-variants.{Accepted, Refused}
+use Rattle.files.specs.declared.Outcome.{Outcome}
+use Rattle.files.specs.declared.Outcome.the-variants.{Accepted, Refused}
 use Rattle.writer.specs.Given.{Call}
 use Rattle.writer.specs.Outcome.{newWriter, answerOf}
 use Rattle.writer.specs.Calls.{Lent, WholeCalls, stateBehind, left, fileOf, putIn, lentOn}

@@ -9,7 +9,8 @@ use Rattle.answer.specs.Rules.{AllKept}
 use Rattle.digits.specs.Numbers.{numberOf}
 use Rattle.digits.specs.declared.spelling.Number.the-variants.{Is}
 use Rattle.layout.specs.Pairs.{batchOf}
-use Rattle.layout.specs.Table.{Field, part, fieldsOf, recordBytes, bankField, batchField, numberField, serviceField, formField, batchRecords, batchSum, fileBatches, fileRecords}
+use Rattle.layout.specs.Field.{Field, part}
+use Rattle.layout.specs.Table.{fieldsOf, recordBytes, bankField, batchField, numberField, serviceField, formField, batchRecords, batchSum, fileBatches, fileRecords}
 use Rattle.layout.specs.Record.{rulesOf, allPrintable}
 use Rattle.layout.specs.declared.Direction.{Direction}
 use Rattle.layout.specs.declared.Direction.the-variants.{Return}
@@ -17,7 +18,7 @@ use Rattle.layout.specs.declared.Record.{Record}
 use Rattle.layout.specs.declared.Record.the-variants.{FileHeader, BatchHeader, SegmentZ, BatchTrailer, FileTrailer}
 use Rattle.layout.specs.declared.pairs.Batch.{Batch}
 use Rattle.checker.specs.Order.{payment}
-use Rattle.checker.specs.Totals.{totals, none, add, centsOf}
+use Rattle.checker.specs.Totals.{totals, none, add, centsOf, batchCount, paymentCount, centSum}
 use Rattle.checker.specs.Line.{recordIn, houseRules, mostBatches, mostPayments, headerBatch, trailerBatch, lineFrom}
 use Rattle.checker.specs.Machine.{directionOf}
 use Rattle.checker.specs.declared.totals.Totals.{Totals}
@@ -106,13 +107,13 @@ pub record RightFile (ls : List (List ℕ)) (t : Totals) : Type 0 where
   pub header-right : Numbered FileHeader direction bank headerBatch header
   pub direction-is : direction ≡ directionOf (recordIn header)
   pub batches-right : Batches direction bank 0 middle inside
-  pub some : 1 ≤ inside .batches
-  pub most : inside .batches ≤ mostBatches
-  pub below : inside .cents .0 < fileCents
+  pub some : 1 ≤ batchCount inside
+  pub most : batchCount inside ≤ mostBatches
+  pub below : centSum inside < fileCents
   pub trailer-right : Numbered FileTrailer direction bank trailerBatch trailer
-  pub batches-counted : Reads fileBatches (inside .batches) trailer
+  pub batches-counted : Reads fileBatches (batchCount inside) trailer
   pub records-counted : Reads fileRecords (length ls) trailer
-  pub are : t ≡ totals (inside .batches) (length ls) (inside .payments) (inside .cents .0)
+  pub are : t ≡ totals (batchCount inside) (length ls) (paymentCount inside) (centSum inside)
 
 -- bytes that are the lines of such a file, joined
 pub record Meets (bytes : List ℕ) (t : Totals) : Type 0 where

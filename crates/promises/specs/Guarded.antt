@@ -5,14 +5,16 @@ use Prim.Native.Nat.{ℕ, suc, _+_, _*_, _-_, _≤_, _<_}
 use lib.ListN.{length, getD, take, drop, set}
 use Rattle.digits.specs.Digits.{digitByte}
 use Rattle.boleto.specs.Guarded.{GuardedInBarcode}
-use Rattle.layout.specs.Table.{Kind, K, O, Zeros, Exact, Field, part, fieldsOf, typeOf, recordBytes, typePlace, segmentPlace, numberField, creditAmount, barcodeField, nominalField, fineField, boletoAmount, batchRecords, batchSum, fileBatches, fileRecords}
+use Rattle.layout.specs.Field.{Kind, K, O, Zeros, Exact, Field, part}
+use Rattle.layout.specs.Table.{fieldsOf, recordBytes, typePlace, segmentPlace, numberField, barcodeField, nominalField, fineField, batchRecords, batchSum, fileBatches, fileRecords}
+use Rattle.layout.specs.Records.{typeOf, creditAmount, boletoAmount}
 use Rattle.layout.specs.declared.Direction.{Direction}
 use Rattle.layout.specs.declared.Direction.the-variants.{Remittance}
 use Rattle.layout.specs.declared.Record.{Record}
 use Rattle.layout.specs.declared.Record.the-variants.{FileHeader, SegmentA, SegmentJ, BatchTrailer, FileTrailer}
 use Rattle.checker.specs.Line.{lineBytes, recordIn, lineIs}
 use Rattle.checker.specs.Machine.{start, directionOf}
-use Rattle.checker.specs.File.{linesOf}
+use Rattle.files.specs.File.{linesOf}
 use Rattle.checker.specs.Calls.{left}
 use Rattle.checker.specs.declared.order.Reading.the-variants.{Line}
 

@@ -10,7 +10,7 @@ use Rattle.answer.specs.declared.Refusal.{Refusal}
 use Rattle.checker.specs.Order.{ended}
 use Rattle.checker.specs.Line.{rulesOfLine}
 use Rattle.checker.specs.Machine.{start}
-use Rattle.checker.specs.File.{linesOf}
+use Rattle.files.specs.File.{linesOf}
 use Rattle.checker.specs.Calls.{Through}
 use Rattle.checker.specs.declared.Checker.{Checker}
 

@@ -7,10 +7,10 @@ use Rattle.answer.specs.declared.Answer.the-variants.{Accepted}
 use Rattle.fields.specs.Values.{fieldsIn}
 use Rattle.checker.specs.Line.{recordIn, lineIs}
 use Rattle.checker.specs.Machine.{start, stepOf}
-use Rattle.checker.specs.File.{linesOf}
+use Rattle.files.specs.File.{linesOf}
 use Rattle.checker.specs.declared.order.Reading.{Reading}
 use Rattle.checker.specs.declared.order.Reading.the-variants.{Line, Nothing}
-use Rattle.checker.specs.declared.order.Phase.the-variants.{Ended}
+use Rattle.layout.specs.declared.shapes.Phase.the-variants.{Ended}
 use Rattle.checker.specs.declared.totals.Totals.{Totals}
 use Rattle.checker.specs.declared.Checker.{Checker}
 use Rattle.writer.specs.Given.{Call, recordsOf}

@@ -10,7 +10,7 @@ use Rattle.layout.specs.declared.Direction.{Direction}
 use Rattle.layout.specs.declared.Record.the-variants.{FileHeader}
 use Rattle.checker.specs.Line.{lineBytes, headerBatch}
 use Rattle.checker.specs.declared.totals.Totals.{Totals}
-use Rattle.checker.specs.declared.file.Outcome.{Outcome}
+use Rattle.files.specs.declared.Outcome.{Outcome}
 use Rattle.writer.specs.Given.{Call, pay}
 use Rattle.writer.specs.declared.given.Payment.{Payment}
 use Rattle.promises.specs.Grammar.{Numbered, RightBatch}

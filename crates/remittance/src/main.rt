@@ -61,7 +61,7 @@ fn main() {
     let written = write_file(&mut file);
     let answer = written.answer;
     if answer.is_accepted() {
-        Line::of_outcome(checker::check_file(&file)).print();
+        Line::of_outcome(files::check_file(&file)).print();
     } else {
         Line::of_answer(answer).print();
     }

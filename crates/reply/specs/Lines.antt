@@ -1,12 +1,13 @@
 -- The line that answers: its word and its numbers. Assumes nothing.
 use mathlib.Core.Bool.{Bool, true, false}
-use mathlib.Core.List.{List, [], _∷_}
+use mathlib.Core.List.{[], _∷_}
 use Prim.Native.Nat.{ℕ}
 use Rattle.answer.specs.declared.Refusal.{Refusal}
 use Rattle.answer.specs.declared.Answer.{Answer}
 use Rattle.answer.specs.declared.Answer.the-variants as answer
-use Rattle.checker.specs.declared.file.Outcome.{Outcome}
-use Rattle.checker.specs.declared.file.Outcome.the-variants as file
+use Rattle.checker.specs.Totals.{batchCount, recordCount, paymentCount, centSum}
+use Rattle.files.specs.declared.Outcome.{Outcome}
+use Rattle.files.specs.declared.Outcome.the-variants as file
 use Rattle.reply.specs.declared.Line.{Line}
 
 -- OK or NO, four numbers, and how many of them stand in the line
@@ -24,5 +25,5 @@ answerLine (answer.Refused r) = refusalLine r
 
 -- OK batches records payments cents, or a refusal's line
 abbrev pub outcomeLine : Outcome → Line
-outcomeLine (file.Accepted t) = said true (t .batches) (t .records .0) (t .payments) (t .cents .0) 4
+outcomeLine (file.Accepted t) = said true (batchCount t) (recordCount t) (paymentCount t) (centSum t) 4
 outcomeLine (file.Refused r) = refusalLine r

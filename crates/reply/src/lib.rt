@@ -2,7 +2,7 @@
 // contract; that it is printed is output, of which no contract can speak.
 use answer::Answer;
 use answer::Refusal;
-use checker::Outcome;
+use files::Outcome;
 use libc::STDOUT_FILENO;
 ghost use mathlib.Core.Path.{_≡_};
 ghost use Rattle.reply.specs.Lines.{refusalLine, answerLine, outcomeLine};
@@ -50,7 +50,7 @@ impl Line {
         match outcome {
             Outcome::Accepted(t) => Line {
                 accepted: true,
-                numbers: [t.batches, t.records.0, t.payments, t.cents.0],
+                numbers: [t.batches(), t.records().0, t.payments(), t.cents().0],
                 count: 4,
             },
             Outcome::Refused(r) => Line::of_refusal(r),

@@ -12,16 +12,14 @@ use Rattle.answer.specs.declared.Refusal.{Refusal}
 use Rattle.answer.specs.declared.Answer.{Answer}
 use Rattle.answer.specs.declared.Answer.the-variants.{Accepted, Refused}
 use Rattle.answer.specs.laws.Order.{accepted-kept, kept-behind, first-append, first-on-line, one-then}
-use Rattle.layout.specs.Table.{isOneOf}
+use Rattle.layout.specs.Records.{isOneOf}
 use Rattle.layout.specs.declared.Record.{Record}
 use Rattle.fields.specs.declared.Fields.{Fields}
 use Rattle.checker.specs.Machine.{lineOf}
 use Rattle.checker.specs.declared.Checker.{Checker}
 use Rattle.writer.specs.Given.{Call, recordsOf}
-use Rattle.writer.specs.Refusals.{turnRule, held, turnLimits, turnRules, givenOnLine, lastRules, callRules}
-use Rattle.writer.specs.inner.Placed.{expectedIn, expectedNow, allGiven}
+use Rattle.writer.specs.Refusals.{turnRule, held, turnLimits, turnRules, expectedIn, expectedNow, givenOnLine, allGiven, lastRules, callRules}
 use Rattle.writer.specs.Outcome.{writer, behindAll, cursorBehind, outputAfter, answerOf, Wrote}
-use Rattle.writer.specs.laws.Placed.{placed-rules}
 use Rattle.writer.specs.laws.Accepted.{off-line}
 use Rattle.writer.specs.inner.Steps.{turnOf, WroteIn}
 use Rattle.writer.specs.declared.Writer.{Writer}
@@ -68,7 +66,7 @@ module _ {w : Writer} {out after : List ℕ} {r : Written} {turn : Answer} where
       → WroteIn turn (allGiven (expectedIn c (w .checker)) (w .checker) (recordsOf c) ++ rulesOnLine (lineOf (w .checker)) (lastRules c w out)) w (recordsOf c) out after r
       → Wrote w c out after r
   unfolding answerOf callRules
-  whole-call c e h = record { answered = h .answered ∙ rw (e, placed-rules c (w .checker)) (sym (first-append (turnRules c (w .checker)) _)); moved = h .moved; memory = h .memory }
+  whole-call c e h = record { answered = h .answered ∙ rw e (sym (first-append (turnRules c (w .checker)) _)); moved = h .moved; memory = h .memory }
 
   -- of one record, which is the one that is expected
   pub one-expected : (g : Fields) (expected : List (List Record)) (ys : List Rule) → isOneOf (g .which) (expectedNow expected) ≡ true

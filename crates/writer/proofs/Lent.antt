@@ -1,15 +1,15 @@
 -- Bytes over a part of the output that is lent from a place on, and a record's line end. Assumes nothing.
-use mathlib.Core.Path.{_≡_, sym, ap, _∙_}
-use mathlib.Core.Bool.{Bool, true, false, cond}
+use mathlib.Core.Path.{_≡_, refl, sym, ap, _∙_}
 use mathlib.Core.List.{List, [], _∷_, _++_, flatten, append-assoc, append-nil}
-use Prim.Native.Nat.{ℕ, suc, _+_, _-_, _≤_}
+use Prim.Native.Nat.{ℕ, _+_, _-_, _*_, _≤_, _<_}
+use native.Mathlib.Numerals.{add-one}
 use native.Mathlib.Omega.{arith}
-use lib.ListN.{length, getD, take, drop, set, length-append, length-drop, drop-of-length-le, take-append-drop}
-use lib.Seq.{drop-cons, set-at, drop-drop, take-all, take-at, drop-at}
-use Rattle.fields.specs.declared.Fields.{Fields}
-use Rattle.answer.specs.laws.Order.{never}
+use lib.ListN.{length, getD, take, drop, set, length-append, length-drop, drop-of-length-le}
+use lib.Seq.{take-suc, drop-cons, set-at, drop-drop, take-all, take-at, drop-at}
 use Rattle.checker.specs.Line.{lineFrom}
 use Rattle.writer.specs.Refusals.{size}
+use Rattle.writer.specs.inner.Steps.{lineWith, linesWith}
+use Rattle.fields.specs.declared.writing.Made.{Made}
 
 module _ (rec out last : List ℕ) (over : last ≡ rec ++ drop 240 out) (k : length last ≡ length out) (h : 242 ≤ length out) where
   rec-length : length rec ≡ 240
@@ -50,43 +50,54 @@ line-long l out last e k h =
     let n : length last ≡ length l + (length out - 242) = rw (e, length-append, length-drop) in
     omega arith
 
--- ---- the lines of a payment
+-- ---- the lines of records that are made, one behind the other
 
-abbrev pub thirdOver : Bool → Fields → List ℕ → List ℕ → List ℕ
-thirdOver triple d l out = take 484 out ++ (flatten (cond triple (l ∷ []) []) ++ drop (size (suc (suc (length (cond triple (d ∷ []) []))))) out)
+pub lines-and : (ms : List Made) (m : Made) → linesWith (ms ++ m ∷ []) ≡ linesWith ms ++ lineWith m ∷ []
+lines-and [] m = refl
+lines-and (x ∷ ms) m = ap (λ (ls : List (List ℕ)). lineWith x ∷ ls) (lines-and ms m)
 
-pub third-room : (triple : Bool) (d : Fields) (n : ℕ) → size (suc (suc (length (cond triple (d ∷ []) [])))) ≤ n → (484 ≤ n) × (triple ≡ true → 726 ≤ n)
-third-room true d n h = (omega arith, λ e. h)
-third-room false d n h = (h, never)
+-- the first k of them over the first bytes
+pub record Over (made : List Made) (k : ℕ) (out part : List ℕ) : Type 0 where
+  pub is : part ≡ flatten (linesWith (take k made)) ++ drop (size k) out
+  pub long : length (flatten (linesWith (take k made))) ≡ size k
+  pub same : length part ≡ length out
 
-pub third-put : (triple : Bool) (d : Fields) (l out new : List ℕ) → triple ≡ true → 484 ≤ length out → new ≡ l ++ drop 242 (take (length out - 484) (drop 484 out))
-    → take 484 out ++ (new ++ drop (length out - 484) (drop 484 out)) ≡ thirdOver triple d l out
+pub over-first : (made : List Made) (out : List ℕ) → Over made 0 out out
 unfolding flatten
-third-put true d l out new e h q = lent 484 out h 242 l new q ∙ ap (λ (x : List ℕ). take 484 out ++ (x ++ drop 726 out)) (sym (append-nil l))
-third-put false d l out new e h q = never e
+over-first made out = record { is = refl; long = refl; same = refl }
 
-pub third-none : (triple : Bool) (d : Fields) (l out : List ℕ) → triple ≡ false → out ≡ thirdOver triple d l out
+flatten-and : (ls : List (List ℕ)) (l : List ℕ) → flatten (ls ++ l ∷ []) ≡ flatten ls ++ l
 unfolding flatten
-third-none true d l out e = never (sym e)
-third-none false d l out e = sym (take-append-drop 484 out)
+flatten-and [] l = append-nil l
+flatten-and (x ∷ ls) l = rw (flatten-and ls l, append-assoc)
 
-module _ (a b out : List ℕ) (ka : length a ≡ 242) (kb : length b ≡ 242) where
-  abbrev two-over : List ℕ
-  two-over = (a ++ b) ++ drop 484 out
+-- one more
+module _ (made : List Made) (k : ℕ) (m : Made) {out part : List ℕ} (o : Over made k out part) (there : k < length made) (room : size (k + 1) ≤ length out) where
+  abbrev front : List ℕ
+  front = flatten (linesWith (take k made))
 
-  two-long : length (a ++ b) ≡ 484
-  two-long = rw (length-append, ka, kb)
+  abbrev line : List ℕ
+  line = lineWith (getD made k m)
 
-  pub second-over : (first : List ℕ) → first ≡ a ++ drop 242 out → take 242 first ++ (b ++ drop 484 first) ≡ two-over
-  second-over first e =
-      let behind : drop 484 first ≡ drop 484 out = rw e (sym (drop-drop 242 242 (a ++ drop 242 out)) ∙ rw (drop-at a (drop 242 out) 242 ka) (drop-drop 242 242 out)) in
-      rw (behind, e, take-at a (drop 242 out) 242 ka) (sym (append-assoc a b (drop 484 out)))
+  pub at-most : k * 242 ≤ length part
+  at-most = omega (arith, o .same)
 
-  behind-two : (k : ℕ) → drop (484 + k) two-over ≡ drop (484 + k) out
-  behind-two k = sym (drop-drop k 484 two-over) ∙ rw (drop-at (a ++ b) (drop 484 out) 484 two-long) (drop-drop k 484 out)
+  pub line-room : 242 ≤ length (take (length part - k * 242) (drop (k * 242) part))
+  line-room = rw (whole (k * 242) part at-most, length-drop) (omega (arith, o .same))
 
-  pub all-over : (triple : Bool) (d : Fields) (l : List ℕ)
-      → thirdOver triple d l two-over ≡ flatten (a ∷ b ∷ cond triple (l ∷ []) []) ++ drop (size (suc (suc (length (cond triple (d ∷ []) []))))) out
-  unfolding flatten
-  all-over true d l = rw (take-at (a ++ b) (drop 484 out) 484 two-long, behind-two 242) (simp append-assoc)
-  all-over false d l = rw (take-at (a ++ b) (drop 484 out) 484 two-long, behind-two 0) (simp append-assoc)
+  pub over-next : (new : List ℕ) → new ≡ line ++ drop 242 (take (length part - k * 242) (drop (k * 242) part))
+      → length new ≡ length (take (length part - k * 242) (drop (k * 242) part))
+      → Over made (k + 1) out (take (k * 242) part ++ (new ++ drop (length part - k * 242) (drop (k * 242) part)))
+  over-next new q same =
+      let at = k * 242 in
+      let part-is = lent at part at-most 242 line new q in
+      let here : length line ≡ 242 = line-long line (take (length part - at) (drop at part)) new q same line-room in
+      let early : take at part ≡ front = rw (o .is) (take-at front (drop (size k) out) at (omega (arith, o .long))) in
+      let rest : drop at part ≡ drop (size k) out = rw (o .is) (drop-at front (drop (size k) out) at (omega (arith, o .long))) in
+      let n : size k + 242 ≡ size (k + 1) = omega arith in
+      let late : drop (at + 242) part ≡ drop (size (k + 1)) out = sym (drop-drop 242 at part) ∙ rw rest (drop-drop 242 (size k) out ∙ rw n) in
+      let lines : flatten (linesWith (take (k + 1) made)) ≡ front ++ line = rw (add-one k, take-suc made k m there, lines-and (take k made) (getD made k m)) (flatten-and (linesWith (take k made)) line) in
+      let is : take at part ++ (new ++ drop (length part - at) (drop at part)) ≡ flatten (linesWith (take (k + 1) made)) ++ drop (size (k + 1)) out =
+      part-is ∙ rw (early, late, lines) (sym (append-assoc front line (drop (size (k + 1)) out))) in
+      let long : length (flatten (linesWith (take (k + 1) made))) ≡ size (k + 1) = rw (lines, length-append) (omega (arith, o .long)) in
+      record { is = is; long = long; same = ap length is ∙ rw (length-append, long, length-drop) (omega arith) }

@@ -1,47 +1,50 @@
 -- Records that are tried, one behind the other. Assumes nothing.
-use mathlib.Core.Path.{_≡_, refl, sym, ap, ap₂, _∙_}
+use mathlib.Core.Path.{_≡_, refl, sym, ap, _∙_}
 use mathlib.Core.Bool.{Bool, true, false, cond}
-use mathlib.Core.List.{List, [], _∷_, _++_, append-nil}
-use Prim.Native.Nat.{ℕ, _≤_}
+use mathlib.Core.List.{List, [], _∷_, _++_, append-nil, append-assoc}
+use Prim.Native.Nat.{ℕ, zero, suc, _+_, _≤_, _<_}
+use native.Mathlib.Numerals.{add-one}
+use native.Mathlib.Omega.{arith}
 use borrow.Author.Tests.{le-leb}
-use lib.ListN.{length, drop}
+use lib.ListN.{length, getD, take, drop, set, length-set, drop-of-length-le}
+use lib.Seq.{take-suc-set}
 use Rattle.answer.specs.Rules.{Rule, rule, AllKept, firstBroken, onLine, noLine, refusedAs}
 use Rattle.answer.specs.declared.LineNo.{LineNo}
 use Rattle.answer.specs.declared.Refusal.{Refusal}
 use Rattle.answer.specs.declared.Answer.{Answer}
 use Rattle.answer.specs.declared.Answer.the-variants.{Accepted, Refused}
-use Rattle.answer.specs.laws.Order.{never, never-refused, past, done, first-on-line, one-then, here, gone-on, stopped, accepted-kept, kept-accepted}
-use Rattle.layout.specs.Table.{isOneOf, segmentPlace, fieldsOf, recordBytes}
+use Rattle.answer.specs.laws.Order.{never-refused, past, done, first-on-line, one-then, here, gone-on, stopped, accepted-kept, kept-accepted}
+use Rattle.layout.specs.Records.{isOneOf}
+use Rattle.layout.specs.Table.{segmentPlace, fieldsOf, recordBytes}
 use Rattle.layout.specs.Record.{rulesOf, byteRule}
 use Rattle.layout.specs.declared.Direction.{Direction}
 use Rattle.layout.specs.declared.Record.{Record}
-use Rattle.layout.specs.declared.pairs.Batch.{Batch}
 use Rattle.fields.specs.Values.{recordOf, madeOf, Puts}
 use Rattle.fields.specs.laws.Parts.{record-length}
 use Rattle.fields.specs.laws.Marks.{made-answer}
 use Rattle.fields.specs.declared.Fields.{Fields}
 use Rattle.fields.specs.declared.writing.Made.{Made}
-use Rattle.checker.specs.Order.{first, second}
 use Rattle.checker.specs.Line.{houseRules, lineFrom}
-use Rattle.checker.specs.Machine.{lineOf, sound, stepOf}
+use Rattle.checker.specs.Machine.{lineOf, sound, stepOf, mostDetails}
 use Rattle.checker.specs.laws.Meaning.{off-line-accepted}
 use Rattle.checker.specs.declared.Checker.{Checker}
 use Rattle.checker.specs.declared.Stepped.{Stepped}
-use Rattle.writer.specs.Given.{thirdIn}
-use Rattle.writer.specs.Filling.{filled, bytesOf}
-use Rattle.writer.specs.Refusals.{zIn, givenRules, givenOnLine}
-use Rattle.writer.specs.inner.Placed.{allGiven}
+use Rattle.filling.specs.Filling.{filled, bytesOf}
+use Rattle.writer.specs.Refusals.{expectedInPayment, expectedNow, givenRules, givenOnLine, nextBy, allGiven}
 use Rattle.writer.specs.Outcome.{linesFor, behindAll}
-use Rattle.writer.specs.Calls.{Whole}
-use Rattle.writer.specs.laws.Expected.{itself}
-use Rattle.writer.specs.laws.Filled.{filled-which}
+use Rattle.fields.specs.Values.{Whole}
+use Rattle.writer.specs.Given.{recordsIn}
+use Rattle.writer.proofs.Lent.{lines-and}
+use Rattle.layout.specs.laws.Records.{itself}
+use Rattle.writer.specs.laws.Given.{enough, from-position}
+use Rattle.writer.specs.laws.Paying.{Inside, before, inside-next, drop-one}
+use Rattle.filling.specs.laws.Filled.{filled-which}
 use Rattle.writer.specs.laws.Lines.{full-text}
 use Rattle.writer.specs.laws.Accepted.{off-line, WellMade, Right}
 use Rattle.writer.specs.laws.TakesLine.{steps-by-house, takes}
-use Rattle.writer.specs.inner.Steps.{kindAnswer, MayTry, Tries, lineWith, TriesThird, TriesLater, TriesPayment}
+use Rattle.writer.specs.inner.Steps.{kindAnswer, MayTry, Tries, lineWith, linesWith, AllRight, none-made, one-more, nthIn, expectedAt, TriesPayment, MayPay}
 use Rattle.writer.specs.declared.given.Payment.{Payment}
 use Rattle.writer.specs.declared.records.Tried.{Tried}
-use Rattle.writer.specs.declared.payments.TriedPayment.{TriedPayment}
 
 -- ---- one record
 
@@ -137,85 +140,101 @@ pub line-made : (s : Checker) (g : Fields) {m : Made} → m ≡ madeOf (g .which
 unfolding madeOf
 line-made s g e = ap lineWith e ∙ rw (filled-which (g .which) s g)
 
--- ---- the third, if there is one
-
-pub third-tried : (s : Checker) (d : Direction) (p : Payment) (expected : Bool) (t : Tried) → p .triple ≡ true → expected ≡ isOneOf (p .third .which) (zIn d)
-    → Tries expected s (p .third) t → TriesThird s d p t
-unfolding allGiven behindAll linesFor
-third-tried s d p expected t k q h =
-    let third = p .third in
-    record {
-      answered = rw (k, ← q) (h .answered ∙ ap firstBroken (sym (append-nil (givenOnLine expected s third))));
-      moved = λ a. rw k (h .moved a);
-      right = λ a b. h .right a;
-      made = rw k (ap (λ (l : List ℕ). l ∷ []) (line-made s third (h .made)));
-    }
-
-pub third-absent : (s : Checker) (d : Direction) (p : Payment) (m : Made) → p .triple ≡ false
-    → TriesThird s d p (record { answer = Accepted; checker = s; made = m })
-unfolding allGiven behindAll linesFor firstBroken
-third-absent s d p m k = record { answered = rw k; moved = λ a. rw k; right = λ a b. never (sym k ∙ b); made = rw k }
-
 -- ---- a record, and those behind it
 
-module _ (s : Checker) (g : Fields) (gs : List Fields) (expected : List Record) (later : List (List Record)) {t : Tried} (h : Tries (isOneOf (g .which) expected) s g t) where
-  pub goes-on : (a : Answer) → t .answer ≡ Accepted → a ≡ firstBroken (allGiven later (t .checker) gs) → a ≡ firstBroken (allGiven (expected ∷ later) s (g ∷ gs))
+module _ (s : Checker) (g : Fields) (gs : List Fields) (expected : List (List Record)) {t : Tried} (h : Tries (isOneOf (g .which) (expectedNow expected)) s g t) where
+  goes-on : t .answer ≡ Accepted → firstBroken (allGiven (drop 1 expected) (t .checker) gs) ≡ firstBroken (allGiven expected s (g ∷ gs))
   unfolding allGiven
-  goes-on a e q = q ∙ rw (h .moved e) (gone-on (givenOnLine (isOneOf (g .which) expected) s g) _ (sym (h .answered) ∙ e))
+  goes-on e = rw (h .moved e) (gone-on (givenOnLine (isOneOf (g .which) (expectedNow expected)) s g) _ (sym (h .answered) ∙ e))
 
-  pub stops : (r : Refusal) → t .answer ≡ Refused r → t .answer ≡ firstBroken (allGiven (expected ∷ later) s (g ∷ gs))
+  stops : (r : Refusal) → t .answer ≡ Refused r → t .answer ≡ firstBroken (allGiven expected s (g ∷ gs))
   unfolding allGiven
-  stops r e = e ∙ stopped (givenOnLine (isOneOf (g .which) expected) s g) _ r (sym (h .answered) ∙ e)
+  stops r e = e ∙ stopped (givenOnLine (isOneOf (g .which) (expectedNow expected)) s g) _ r (sym (h .answered) ∙ e)
 
 -- an accepted record is the one that is expected
-pub was-expected : (s : Checker) (g : Fields) (expected : List Record) {t : Tried} → Tries (isOneOf (g .which) expected) s g t → t .answer ≡ Accepted → isOneOf (g .which) expected ≡ true
+was-expected : (expected : Bool) (s : Checker) (g : Fields) {t : Tried} → Tries expected s g t → t .answer ≡ Accepted → expected ≡ true
 unfolding AllKept givenRules
-was-expected s g expected h e = off-line (lineOf s) (givenRules (isOneOf (g .which) expected) (g .which) (s .dir) (bytesOf s g)) (accepted-kept _ (sym (h .answered) ∙ e)) .1 .0
+was-expected expected s g h e = off-line (lineOf s) (givenRules expected (g .which) (s .dir) (bytesOf s g)) (accepted-kept _ (sym (h .answered) ∙ e)) .1 .0
 
--- ---- the second record of a payment, with its third; and all
+-- ---- the records of a payment
 
-module _ (s : Checker) (d : Direction) (b : Batch) (p : Payment) (m : Made) {t : Tried} (h : Tries (isOneOf (p .second .which) (second b)) s (p .second) t) where
-  pub later-stopped : (r : Refusal) → t .answer ≡ Refused r
-      → TriesLater s d b p m (record { answer = t .answer; checker = t .checker; first = m; second = t .made; third = t .made })
-  later-stopped r e =
+all-right-and : {ms : List Made} (m : Made) → AllRight ms → m .answer ≡ Accepted → AllRight (ms ++ m ∷ [])
+all-right-and m none-made e = one-more e none-made
+all-right-and m (one-more r on) e = one-more r (all-right-and m on e)
+
+-- behind k records that are right: those from here on give what all give from the start
+pub record Going (s : Checker) (p : Payment) (made : List Made) (t : Checker) (k : ℕ) : Type 0 where
+  pub behind : k ≤ length (recordsIn p)
+  pub stands : Inside s k t
+  pub answers : firstBroken (allGiven (drop k (expectedInPayment s)) t (drop k (recordsIn p))) ≡ firstBroken (allGiven (expectedInPayment s) s (recordsIn p))
+  pub moves : behindAll t (drop k (recordsIn p)) ≡ behindAll s (recordsIn p)
+  pub right : AllRight (take k made)
+  pub lines : linesWith (take k made) ++ linesFor t (drop k (recordsIn p)) ≡ linesFor s (recordsIn p)
+  pub long : length made ≡ mostDetails
+
+pub going-first : {s : Checker} (p : Payment) (made : List Made) → MayPay s → length made ≡ mostDetails → Going s p made s 0
+going-first p made k n = record { behind = omega arith; stands = before k; answers = refl; moves = refl; right = none-made; lines = refl; long = n }
+
+module _ {s t : Checker} {p : Payment} {made : List Made} {k : ℕ} (h : Going s p made t k) where
+  module _ (more : k < length (recordsIn p)) {x : Tried} (y : Tries (expectedAt k (s .dir) (s .batch) (nthIn k p .which)) t (nthIn k p) x) where
+    abbrev g : Fields
+    g = nthIn k p
+
+    abbrev later : List Fields
+    later = drop (suc k) (recordsIn p)
+
+    here-on : drop k (recordsIn p) ≡ g ∷ later
+    here-on = from-position p k more
+
+    pub going-stopped : (r : Refusal) → x .answer ≡ Refused r → TriesPayment s p (record { answer = x .answer; checker = x .checker; made = made })
+    going-stopped r e =
+        record {
+          answered = stops t g later (drop k (expectedInPayment s)) y r e ∙ ap (λ (gs : List Fields). firstBroken (allGiven (drop k (expectedInPayment s)) t gs)) (sym here-on) ∙ h .answers;
+          moved = λ q. never-refused (sym q ∙ e);
+          right = λ q. never-refused (sym q ∙ e);
+          made = λ q. never-refused (sym q ∙ e);
+          places = h .long;
+        }
+
+    pub going-on : x .answer ≡ Accepted → Going s p (set made k (x .made)) (x .checker) (k + 1)
+    unfolding behindAll linesFor
+    going-on e =
+        let m = x .made in
+        let short : k < length made = omega (arith, h .long, enough p) in
+        let taken = take-suc-set made k m short in
+        let on : Going s p (set made k m) (nextBy t g) (suc k) = record {
+          behind = omega arith;
+          stands = inside-next (g .which) (bytesOf t g) (h .stands) (was-expected _ t g y e);
+          answers =
+              rw (← drop-one k (expectedInPayment s), ← (y .moved e))
+              (goes-on t g later (drop k (expectedInPayment s)) y e
+              ∙ ap (λ (gs : List Fields). firstBroken (allGiven (drop k (expectedInPayment s)) t gs)) (sym here-on)
+              ∙ h .answers);
+          moves = ap (behindAll t) (sym here-on) ∙ h .moves;
+          right = rw taken (all-right-and m (h .right) (y .right e));
+          lines =
+              rw (taken, lines-and (take k made) m, line-made t g (y .made), append-assoc)
+              (ap (λ (gs : List Fields). linesWith (take k made) ++ linesFor t gs) (sym here-on) ∙ h .lines);
+          long = length-set made k m ∙ h .long;
+        } in
+        rw (add-one k, y .moved e) on
+
+  pub gone-through : length (recordsIn p) ≤ k → TriesPayment s p (record { answer = Accepted; checker = t; made = made })
+  unfolding firstBroken allGiven behindAll linesFor
+  gone-through past =
+      let none : drop k (recordsIn p) ≡ [] = drop-of-length-le (recordsIn p) {i = k} past in
+      let all : k ≡ length (recordsIn p) = omega (arith, h .behind) in
       record {
-        answered = stops s (p .second) (thirdIn p) (second b) (zIn d ∷ []) h r e;
-        moved = λ q. never-refused (sym q ∙ e);
-        kept = refl;
-        right = λ q. never-refused (sym q ∙ e);
-        made = λ q. never-refused (sym q ∙ e);
+        answered = sym (ap (λ (gs : List Fields). firstBroken (allGiven (drop k (expectedInPayment s)) t gs)) none) ∙ h .answers;
+        moved = λ q. sym (ap (behindAll t) none) ∙ h .moves;
+        right = λ q. rw (← all) (h .right);
+        made = λ q. rw (← all) (sym (append-nil (linesWith (take k made))) ∙ ap (λ (gs : List Fields). linesWith (take k made) ++ linesFor t gs) (sym none) ∙ h .lines);
+        places = h .long;
       }
 
-  pub later-gone-on : {u : Tried} → t .answer ≡ Accepted → TriesThird (t .checker) d p u
-      → TriesLater s d b p m (record { answer = u .answer; checker = u .checker; first = m; second = t .made; third = u .made })
-  unfolding behindAll linesFor
-  later-gone-on e k =
-      record {
-        answered = goes-on s (p .second) (thirdIn p) (second b) (zIn d ∷ []) h _ e (k .answered);
-        moved = λ q. k .moved q ∙ ap (λ (m : Checker). behindAll m (thirdIn p)) (h .moved e);
-        kept = refl;
-        right = λ q first. record { first = first; second = h .right e; third = k .right q };
-        made = λ q. ap₂ _∷_ (line-made s (p .second) (h .made)) (k .made ∙ ap (λ (m : Checker). linesFor m (thirdIn p)) (h .moved e));
-      }
-
-module _ (s : Checker) (p : Payment) {t : Tried} (h : Tries (isOneOf (p .first .which) (first (s .batch))) s (p .first) t) where
-  pub payment-stopped : (r : Refusal) → t .answer ≡ Refused r
-      → TriesPayment s p (record { answer = t .answer; checker = t .checker; first = t .made; second = t .made; third = t .made })
-  payment-stopped r e =
-      record {
-        answered = stops s (p .first) (p .second ∷ thirdIn p) (first (s .batch)) (second (s .batch) ∷ zIn (s .dir) ∷ []) h r e;
-        moved = λ q. never-refused (sym q ∙ e);
-        right = λ q. never-refused (sym q ∙ e);
-        made = λ q. never-refused (sym q ∙ e);
-      }
-
-  pub payment-gone-on : {u : TriedPayment} → t .answer ≡ Accepted → TriesLater (t .checker) (s .dir) (s .batch) p (t .made) u → TriesPayment s p u
-  unfolding behindAll linesFor
-  payment-gone-on e k =
-      let later = p .second ∷ thirdIn p in
-      record {
-        answered = goes-on s (p .first) later (first (s .batch)) (second (s .batch) ∷ zIn (s .dir) ∷ []) h _ e (k .answered);
-        moved = λ q. k .moved q ∙ ap (λ (m : Checker). behindAll m later) (h .moved e);
-        right = λ q. k .right q (h .right e);
-        made = λ q. ap₂ _∷_ (line-made s (p .first) (k .kept ∙ h .made)) (k .made q ∙ ap (λ (m : Checker). linesFor m later) (h .moved e));
-      }
+-- the one at a position is right
+pub right-at : (ms : List Made) (n k : ℕ) (m : Made) → AllRight (take n ms) → k < n → k < length ms → getD ms k m .answer ≡ Accepted
+right-at [] n k m r h in-all = absurd (omega arith)
+right-at (x ∷ ms) zero k m r h in-all = absurd (omega arith)
+right-at (x ∷ ms) (suc n) zero m (one-more e on) h in-all = e
+right-at (x ∷ ms) (suc n) (suc k) m (one-more e on) h in-all = right-at ms n k m on (omega arith) (omega arith)

@@ -1,23 +1,16 @@
 -- Calls one after the other, each lent some memory; a refused one leaves the state, and the next is made all the same. Assumes nothing.
-use mathlib.Core.Path.{_≡_}
 use mathlib.Core.List.{List, [], _∷_, _++_, flatten}
 use Prim.Native.Nat.{ℕ}
 use lib.ListN.{length}
 use Rattle.answer.specs.declared.Answer.{Answer}
 use Rattle.answer.specs.declared.Answer.the-variants.{Accepted, Refused}
-use Rattle.layout.specs.Table.{recordBytes}
-use Rattle.fields.specs.Values.{mostFields}
+use Rattle.fields.specs.Values.{Whole}
 use Rattle.fields.specs.declared.Fields.{Fields}
 use Rattle.checker.specs.Totals.{totals, none, add}
 use Rattle.checker.specs.declared.totals.Totals.{Totals}
 use Rattle.writer.specs.Given.{Call, openFile, openBatch, pay, closeBatch, closeFile, recordsIn, recordsOf, amountIn}
 use Rattle.writer.specs.Outcome.{newWriter, linesFor, answerOf, stateAfter, outputAfter}
 use Rattle.writer.specs.declared.Writer.{Writer}
-
--- the arrays of fields have their lengths, as those of every value that a call is given
-pub record Whole (v : Fields) : Type 0 where
-  pub numbers : length (v .numbers) ≡ mostFields
-  pub text : length (v .text) ≡ recordBytes
 
 pub data AllWhole : List Fields → Type 0 where
   no-more : AllWhole []

@@ -3,9 +3,10 @@ use mathlib.Core.Bool.{Bool, true, false, not, cond, _&&_}
 use mathlib.Core.List.{List, [], _∷_}
 use Prim.Native.Nat.{ℕ}
 use lib.Dec.{T}
+use Rattle.layout.specs.declared.pairs.Batch.the-variants.{Credit, Boleto, Unknown}
 use Rattle.writer.specs.Refusals.{fitsBatch, fitsPayment}
 
--- a file with so many records: whether a batch may be opened, and a payment of two records or of three be made
+-- a file with so many records: whether a batch may be opened, of either kind or of none, and a payment of two records or of three be made
 pub record Row : Type 0 where
   pub records : ℕ
   pub batch : Bool
@@ -20,7 +21,9 @@ agree a b = cond a b (not b)
 
 abbrev pub holds : Row → Bool
 holds x =
-    agree (fitsBatch (x .records)) (x .batch)
+    agree (fitsBatch (x .records) Credit) (x .batch)
+    && agree (fitsBatch (x .records) Boleto) (x .batch)
+    && agree (fitsBatch (x .records) Unknown) (x .batch)
     && (agree (fitsPayment (x .records) 2) (x .two) && agree (fitsPayment (x .records) 3) (x .three))
 
 unfoldable pub table : List Row

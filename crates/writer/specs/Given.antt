@@ -1,27 +1,31 @@
 -- What the writer's calls are given. Assumes nothing.
-use mathlib.Core.Bool.{true, false, cond}
 use mathlib.Core.List.{List, [], _∷_}
 use Prim.Native.Nat.{ℕ}
-use Rattle.layout.specs.Table.{creditAmount, boletoAmount}
+use lib.ListN.{take}
+use Rattle.layout.specs.Field.{Field}
+use Rattle.layout.specs.Records.{amountsOf}
 use Rattle.layout.specs.Names.{indexOf}
 use Rattle.layout.specs.declared.Record.{Record}
-use Rattle.layout.specs.declared.Record.the-variants.{FileHeader, BatchHeader, SegmentA, SegmentB, SegmentJ, SegmentJ52, SegmentZ, BatchTrailer, FileTrailer}
+use Rattle.layout.specs.declared.Record.the-variants.{FileHeader, BatchHeader, SegmentZ, BatchTrailer, FileTrailer}
 use Rattle.fields.specs.Values.{noFields, takenAs, nth}
 use Rattle.fields.specs.declared.Fields.{Fields}
+use Rattle.writer.specs.declared.given.Count.{Count}
+use Rattle.writer.specs.declared.given.Count.the-variants.{Two, Three}
 use Rattle.writer.specs.declared.given.Payment.{Payment}
 
--- two records, or two and a third
+-- two records, or three
 abbrev pub two : Fields → Fields → Payment
-two a b = record { first = a; second = b; third = noFields SegmentZ; triple = false }
+two a b = record { first = a; second = b; third = noFields SegmentZ; count = Two }
 
 abbrev pub three : Fields → Fields → Fields → Payment
-three a b c = record { first = a; second = b; third = c; triple = true }
+three a b c = record { first = a; second = b; third = c; count = Three }
 
-abbrev pub thirdIn : Payment → List Fields
-thirdIn p = cond (p .triple) (p .third ∷ []) []
+abbrev pub many : Count → ℕ
+many Two = 2
+many Three = 3
 
 abbrev pub recordsIn : Payment → List Fields
-recordsIn p = p .first ∷ p .second ∷ thirdIn p
+recordsIn p = take (many (p .count)) (p .first ∷ p .second ∷ p .third ∷ [])
 
 pub data Call : Type 0 where
   openFile : Fields → Call
@@ -40,23 +44,12 @@ recordsOf (closeFile v) = takenAs FileTrailer v ∷ []
 
 -- ---- the amount of a payment, which its first record gives
 
--- where it stands among the fields of A, and of J, from 0 on
-abbrev pub creditIndex : ℕ
-creditIndex = indexOf SegmentA creditAmount
-
-abbrev pub boletoIndex : ℕ
-boletoIndex = indexOf SegmentJ boletoAmount
+abbrev pub givenIn : Record → List Field → Fields → ℕ
+givenIn r [] v = 0
+givenIn r (f ∷ fs) v = nth (indexOf r f) v
 
 abbrev pub amountOf : Record → Fields → ℕ
-amountOf FileHeader v = 0
-amountOf BatchHeader v = 0
-amountOf SegmentA v = nth creditIndex v
-amountOf SegmentB v = 0
-amountOf SegmentJ v = nth boletoIndex v
-amountOf SegmentJ52 v = 0
-amountOf SegmentZ v = 0
-amountOf BatchTrailer v = 0
-amountOf FileTrailer v = 0
+amountOf r v = givenIn r (amountsOf r) v
 
 abbrev pub amountIn : Payment → ℕ
 amountIn p = amountOf (p .first .which) (p .first)

@@ -1,5 +1,4 @@
 pub mod Given
-pub mod Filling
 pub mod Refusals
 pub mod Outcome
 pub mod Calls

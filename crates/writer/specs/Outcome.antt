@@ -11,7 +11,7 @@ use Rattle.checker.specs.Line.{lineFrom}
 use Rattle.checker.specs.Machine.{start}
 use Rattle.checker.specs.declared.Checker.{Checker}
 use Rattle.writer.specs.Given.{Call, recordsOf}
-use Rattle.writer.specs.Filling.{bytesOf}
+use Rattle.filling.specs.Filling.{bytesOf}
 use Rattle.writer.specs.Refusals.{nextBy, size, callRules}
 use Rattle.writer.specs.declared.Writer.{Writer}
 use Rattle.writer.specs.declared.Written.{Written}

@@ -1,3 +1,2 @@
 -- What only private contracts speak of: nothing here has to be believed.
-pub mod Placed
 pub mod Steps

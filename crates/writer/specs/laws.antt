@@ -1,14 +1,15 @@
 -- What is proved of the definitions, for other crates to cite.
+pub mod Given
 pub mod Expected
 pub mod Sound
-pub mod Placed
 pub mod Accepted
-pub mod Filled
 pub mod Lines
 pub mod Reads
 pub mod Ruled
+pub mod KindGiven
 pub mod GivenBack
 pub mod Turn
+pub mod Paying
 pub mod TakesLine
 pub mod TakesCall
 pub mod Counted

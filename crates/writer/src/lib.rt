@@ -1,12 +1,12 @@
 // The writer: calls that open a file, open a batch, pay, close the batch and close the file, into
 // output memory that the caller lends.
-mod filling;
 mod given;
 mod payments;
 mod records;
 mod turns;
 
 use answer::Answer;
+use answer::RecordCount;
 use answer::numbers;
 use checker::Checker;
 use checker::LINE_BYTES;
@@ -14,9 +14,7 @@ use fields::Fields;
 pub use given::Payment;
 use layout::Record;
 use payments::check_sum;
-use payments::count_of;
 use payments::put_payment;
-use payments::size_of;
 use payments::try_payment;
 use records::put_line;
 use records::try_record;
@@ -33,7 +31,6 @@ ghost use Rattle.answer.specs.Rules.{firstBroken};
 ghost use Rattle.answer.specs.Output.{room};
 ghost use Rattle.answer.specs.declared.Answer.the-variants.{Accepted};
 ghost use Rattle.writer.specs.Given.{recordsIn, openFile, openBatch, pay, closeBatch, closeFile};
-ghost use Rattle.writer.specs.Refusals.{size};
 ghost use Rattle.writer.specs.Outcome.{newWriter, Wrote};
 ghost use Rattle.writer.specs.inner.Steps.{WroteIn, oneRules, paymentRules, MayTry, MayPay};
 
@@ -143,8 +140,9 @@ impl Writer {
     {
         let checker = self.checker;
         let may = turns_at(checker.phase()).batch;
-        let turn = check_turn(checker, may, batch_limits(checker));
-        self.write_one(turn, v.taken_as(Record::BatchHeader), out)
+        let given = v.taken_as(Record::BatchHeader);
+        let turn = check_turn(checker, may, batch_limits(checker, given));
+        self.write_one(turn, given, out)
     }
 
     // A payment, behind its turn: its records, then the sum of all payments so far, then room.
@@ -165,7 +163,8 @@ impl Writer {
         let checker = self.checker;
         let tried = try_payment(checker, p);
         let right = tried.answer;
-        let bytes = size_of(p);
+        let count = p.records();
+        let bytes = LINE_BYTES * count;
         let last = check_sum(checker, p).and_then(self.room(bytes, out));
         let answer = right.and_then(last.on_line(checker.next_line()));
         match answer {
@@ -175,10 +174,8 @@ impl Writer {
             },
             Answer::Accepted => {
                 let checker = tried.checker;
-                let a = tried.first;
-                let b = tried.second;
-                let c = tried.third;
-                put_payment(p, a, b, c, &mut out[cursor..]);
+                let made = tried.made;
+                put_payment(count, made, &mut out[cursor..]);
                 Written {
                     state: Writer {
                         checker,
@@ -196,7 +193,7 @@ impl Writer {
     {
         let checker = self.checker;
         let may = turns_at(checker.phase()).payment;
-        let limits = payment_limits(checker, count_of(p));
+        let limits = payment_limits(checker, RecordCount(p.records() as u64));
         let turn = check_turn(checker, may, limits);
         self.write_payment(turn, p, out)
     }

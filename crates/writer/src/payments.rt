@@ -1,16 +1,18 @@
 // A payment's records, one behind the other.
+use super::given::MOST_RECORDS;
 use super::given::Payment;
 use super::records::Tried;
 use super::records::put_line;
 use super::records::try_record;
 use answer::Answer;
 use answer::Cents;
-use answer::RecordCount;
 use answer::numbers;
 use checker::Checker;
 use checker::LINE_BYTES;
+use checker::Reading;
 use fields::Fields;
 use fields::Made;
+use layout::Amount;
 use layout::Batch;
 use layout::Direction;
 use layout::Record;
@@ -18,62 +20,45 @@ use layout::names;
 ghost use mathlib.Core.Path.{_≡_};
 ghost use mathlib.Core.Bool.{true};
 ghost use mathlib.Core.List.{_∷_, [], _++_, flatten};
-ghost use Prim.Native.Nat.{_≤_};
-ghost use lib.Dec.{eqb};
+ghost use Prim.Native.Nat.{_≤_, _<_};
 ghost use lib.ListN.{length, take, drop};
 ghost use Rattle.answer.specs.Rules.{firstBroken};
-ghost use Rattle.answer.specs.declared.Answer.the-variants.{Accepted};
-ghost use Rattle.layout.specs.Table.{code, isOneOf};
-ghost use Rattle.checker.specs.Order.{first, second};
+ghost use Rattle.layout.specs.Records.{isOneOf};
 ghost use Rattle.checker.specs.Machine.{sound, mostDetails};
-ghost use Rattle.writer.specs.Given.{amountOf, recordsIn};
-ghost use Rattle.writer.specs.Refusals.{zIn, nextBy, leastDetails, sumRule, size};
-ghost use Rattle.writer.specs.inner.Steps.{linesThird, linesWith, MayTry, AllRight, TriesThird, TriesLater, TriesPayment, MayPay};
+ghost use Rattle.writer.specs.Given.{amountOf};
+ghost use Rattle.writer.specs.Refusals.{zIn, sumRule, size};
+ghost use Rattle.writer.specs.inner.Steps.{linesWith, nthIn, expectedAt, MayTry, Tries, AllRight, TriesPayment, MayPay};
 
-// The answer, and where it accepts, the state behind all records, which are made. Without a third, its
-// place holds the second again.
+// The answer, and where it accepts, the state behind all records, which are made. Behind the last
+// nothing is.
 pub(crate) struct TriedPayment {
     pub(crate) answer: Answer,
     pub(crate) checker: Checker,
-    pub(crate) first: Made,
-    pub(crate) second: Made,
-    pub(crate) third: Made,
+    pub(crate) made: [Made; MOST_RECORDS],
 }
 
-// Kinds of record, told apart.
-fn is(which: Record, other: Record) -> bool
-    ensures { λ r. ⌜ r ≡ eqb (code which) (code other) ⌝ }
-{
-    layout::row_of(which) == layout::row_of(other)
-}
-
-// Whether a record is the one that begins a payment, its second, or the third.
-fn begins(which: Record, batch: Batch) -> bool
-    ensures { λ r. ⌜ r ≡ isOneOf which (first batch) ⌝ }
-{
-    match batch {
-        Batch::Credit => is(which, Record::SegmentA),
-        Batch::Boleto => is(which, Record::SegmentJ),
-        Batch::Unknown => false,
-    }
-}
-
-fn goes_on(which: Record, batch: Batch) -> bool
-    ensures { λ r. ⌜ r ≡ isOneOf which (second batch) ⌝ }
-{
-    match batch {
-        Batch::Credit => is(which, Record::SegmentB),
-        Batch::Boleto => is(which, Record::SegmentJ52),
-        Batch::Unknown => false,
-    }
-}
-
+// Whether a record is a Z, and may be one.
 fn is_z(which: Record, dir: Direction) -> bool
     ensures { λ r. ⌜ r ≡ isOneOf which (zIn dir) ⌝ }
 {
     match dir {
         Direction::Remittance => false,
-        Direction::Return => is(which, Record::SegmentZ),
+        Direction::Return => layout::is_same(which, Record::SegmentZ),
+    }
+}
+
+// Whether a record is the one that is expected at a position of a payment: the payment's own, or
+// behind the last, in a return, a Z.
+fn is_expected(which: Record, dir: Direction, batch: Batch, position: u8) -> bool
+    ensures { λ r. ⌜ r ≡ expectedAt position dir batch which ⌝ }
+{
+    let own = checker::record_at(batch, position);
+    match own {
+        Reading::Line(expected) => layout::is_same(which, expected),
+        Reading::Nothing => {
+            let behind_last = (position != 0) & (position == checker::records_of(batch));
+            behind_last & is_z(which, dir)
+        }
     }
 }
 
@@ -82,70 +67,23 @@ fn amount_of(v: Fields) -> Cents
     ensures { λ r. ⌜ r .0 ≡ amountOf (v .which) v ⌝ }
 {
     let which = v.which;
-    match which {
-        Record::FileHeader => Cents(0),
-        Record::BatchHeader => Cents(0),
-        Record::SegmentA => v.cents_at(names::A_AMOUNT),
-        Record::SegmentB => Cents(0),
-        Record::SegmentJ => v.cents_at(names::J_AMOUNT),
-        Record::SegmentJ52 => Cents(0),
-        Record::SegmentZ => Cents(0),
-        Record::BatchTrailer => Cents(0),
-        Record::FileTrailer => Cents(0),
+    let amount = layout::shape_of(which).amount;
+    match amount {
+        Amount::NoAmount => Cents(0),
+        Amount::AmountOfA => v.cents_at(names::A_AMOUNT),
+        Amount::AmountOfJ => v.cents_at(names::J_AMOUNT),
     }
 }
 
-// The third record, if there is one.
-fn try_third(m: Checker, p: Payment, second: Made, dir: Direction) -> Tried
-    requires { ⌜ MayTry (isOneOf (p .third .which) (zIn dir)) (p .third .which) m ⌝ }
-    ensures { λ r. ⌜ TriesThird m dir p r ⌝ }
+// The record at a position of a payment, in a state.
+fn try_at(m: Checker, p: Payment, dir: Direction, batch: Batch, position: usize) -> Tried
+    requires { ⌜ position < mostDetails ⌝ }
+    requires { ⌜ MayTry (expectedAt position dir batch (nthIn position p .which)) (nthIn position p .which) m ⌝ }
+    ensures { λ r. ⌜ Tries (expectedAt position dir batch (nthIn position p .which)) m (nthIn position p) r ⌝ }
 {
-    if p.triple {
-        let third = p.third;
-        let which = third.which;
-        return try_record(m, is_z(which, dir), third);
-    }
-    Tried {
-        answer: Answer::Accepted,
-        checker: m,
-        made: second,
-    }
-}
-
-// The second record, and then the third.
-fn try_later(m: Checker, p: Payment, first: Made, dir: Direction, batch: Batch) -> TriedPayment
-    requires { ⌜ MayTry (isOneOf (p .second .which) (second batch)) (p .second .which) m ⌝ }
-    requires { ⌜ (isOneOf (p .second .which) (second batch) ≡ true → MayTry (isOneOf (p .third .which) (zIn dir)) (p .third .which) (nextBy m (p .second))) ⌝ }
-    ensures { λ r. ⌜ TriesLater m dir batch p first r ⌝ }
-{
-    let second = p.second;
-    let which = second.which;
-    let tried = try_record(m, goes_on(which, batch), second);
-    let answer = tried.answer;
-    let second = tried.made;
-    let checker = tried.checker;
-    match answer {
-        Answer::Refused(_) => TriedPayment {
-            answer,
-            checker,
-            first,
-            second,
-            third: second,
-        },
-        Answer::Accepted => {
-            let last = try_third(checker, p, second, dir);
-            let answer = last.answer;
-            let checker = last.checker;
-            let third = last.made;
-            TriedPayment {
-                answer,
-                checker,
-                first,
-                second,
-                third,
-            }
-        }
-    }
+    let v = p.record_at(position);
+    let which = v.which;
+    try_record(m, is_expected(which, dir, batch, position as u8), v)
 }
 
 // All records of a payment, up to the first that is refused. Nothing is written yet.
@@ -155,62 +93,49 @@ pub(crate) fn try_payment(m: Checker, p: Payment) -> TriedPayment
 {
     let dir = m.direction();
     let batch = m.batch();
-    let first = p.first;
-    let which = first.which;
-    let tried = try_record(m, begins(which, batch), first);
-    let answer = tried.answer;
-    let made = tried.made;
-    let checker = tried.checker;
-    match answer {
-        Answer::Refused(_) => TriedPayment {
-            answer,
-            checker,
-            first: made,
-            second: made,
-            third: made,
-        },
-        Answer::Accepted => try_later(checker, p, made, dir, batch),
+    let count = p.records();
+    let mut made = [Made::none(); MOST_RECORDS];
+    let mut checker = m;
+    let mut k = 0;
+    while k < count {
+        let tried = try_at(checker, p, dir, batch, k);
+        let answer = tried.answer;
+        let one = tried.made;
+        let behind = tried.checker;
+        checker = behind;
+        match answer {
+            Answer::Accepted => {}
+            Answer::Refused(_) => {
+                return TriedPayment {
+                    answer,
+                    checker,
+                    made,
+                };
+            }
+        }
+        made[k] = one;
+        k += 1;
+    }
+    TriedPayment {
+        answer: Answer::Accepted,
+        checker,
+        made,
     }
 }
 
-// The third line of a payment, if it has one.
-fn put_third(p: Payment, made: Made, part: &mut [u8])
-    requires { ⌜ (p .triple ≡ true → made .answer ≡ Accepted) ⌝ }
-    requires { ⌜ size (length (recordsIn p)) ≤ length (now part) ⌝ }
-    ensures { λ _. ⌜ now (part .exit) ≡ take (size leastDetails) (now (part .entry)) ++ (flatten (linesThird p made) ++ drop (size (length (recordsIn p))) (now (part .entry))) ⌝ }
+// The lines of so many records, each over its part of this part of the output.
+pub(crate) fn put_payment(count: usize, made: [Made; MOST_RECORDS], part: &mut [u8])
+    requires { ⌜ (count ≤ mostDetails) × (length made ≡ mostDetails) ⌝ }
+    requires { ⌜ AllRight (take count made) ⌝ }
+    requires { ⌜ size count ≤ length (now part) ⌝ }
+    ensures { λ _. ⌜ now (part .exit) ≡ flatten (linesWith (take count made)) ++ drop (size count) (now (part .entry)) ⌝ }
 {
-    if p.triple {
-        put_line(made, &mut part[2 * LINE_BYTES..]);
+    let mut k = 0;
+    while k < count {
+        let start = k * LINE_BYTES;
+        put_line(made[k], &mut part[start..]);
+        k += 1;
     }
-}
-
-// The lines of a payment, over the first bytes of this part of the output.
-pub(crate) fn put_payment(p: Payment, a: Made, b: Made, c: Made, part: &mut [u8])
-    requires { ⌜ AllRight p a b c ⌝ }
-    requires { ⌜ size (length (recordsIn p)) ≤ length (now part) ⌝ }
-    ensures { λ _. ⌜ now (part .exit) ≡ flatten (linesWith p a b c) ++ drop (size (length (recordsIn p))) (now (part .entry)) ⌝ }
-{
-    put_line(a, part);
-    put_line(b, &mut part[LINE_BYTES..]);
-    put_third(p, c, part);
-}
-
-// A payment's records, and the bytes of their lines.
-pub(crate) fn count_of(p: Payment) -> RecordCount
-    ensures { λ r. ⌜ (r .0 ≡ length (recordsIn p)) × (r .0 ≤ mostDetails) ⌝ }
-{
-    if p.triple {
-        RecordCount(3)
-    } else {
-        RecordCount(2)
-    }
-}
-
-pub(crate) fn size_of(p: Payment) -> usize
-    ensures { λ r. ⌜ r ≡ size (length (recordsIn p)) ⌝ }
-{
-    let records = count_of(p);
-    LINE_BYTES * (records.0 as usize)
 }
 
 // The sum of all payments so far, with this one. What was paid so far fits 64 bits; the amount may be
@@ -220,7 +145,7 @@ pub(crate) fn check_sum(m: Checker, p: Payment) -> Answer
     ensures { λ r. ⌜ r ≡ firstBroken (sumRule m p ∷ []) ⌝ }
 {
     let first = p.first;
-    let paid = m.closed().cents.plus(m.current().cents);
+    let paid = m.closed().cents().plus(m.current().cents());
     let fits = paid.fit_a_file(amount_of(first));
     Answer::test(numbers::FILE_SUM, 0, fits)
 }

@@ -1,13 +1,12 @@
 // One record of a call: filled, checked by the reader's rules, and put into the output.
-use super::filling::fill;
 use answer::Answer;
 use answer::numbers;
 use checker::Checker;
 use checker::LINE_BYTES;
-use checker::places;
 use fields::Fields;
 use fields::Made;
 use layout::RECORD_BYTES;
+use layout::places;
 ghost use mathlib.Core.Path.{_≡_};
 ghost use mathlib.Core.List.{_++_};
 ghost use Prim.Native.Nat.{_≤_};
@@ -52,7 +51,7 @@ pub(crate) fn try_record(m: Checker, expected: bool, v: Fields) -> Tried
     requires { ⌜ MayTry expected (v .which) m ⌝ }
     ensures { λ r. ⌜ Tries expected m v r ⌝ }
 {
-    let fields = fill(m, v);
+    let fields = filling::fill(m, v);
     let dir = m.direction();
     let made = fields::make_record(fields, dir);
     let right = check(expected, made, fields);

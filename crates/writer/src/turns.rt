@@ -5,17 +5,25 @@ use answer::numbers;
 use checker::Checker;
 use checker::MOST_BATCHES;
 use checker::MOST_PAYMENTS;
-use checker::Phase;
-use checker::places;
+use digits::Number;
+use fields::Fields;
+use layout::Batch;
+use layout::Direction;
+use layout::Phase;
+use layout::names;
+use layout::places;
 ghost use mathlib.Core.Path.{_≡_};
 ghost use Prim.Native.Nat.{_≤_};
 ghost use Rattle.answer.specs.Rules.{firstBroken};
 ghost use Rattle.checker.specs.Machine.{mostDetails};
-ghost use Rattle.writer.specs.Refusals.{turns, recordsSoFar, fitsFile, batchLimits, paymentLimits, held};
+ghost use Rattle.writer.specs.Refusals.{turns, recordsSoFar, kindGiven, leastDetails, fitsFile, batchLimits, paymentLimits, held};
 ghost use Rattle.writer.specs.inner.Steps.{turnOf};
 
-// What opening a batch asks room for: its header, a payment of two records, and two trailers.
-const BATCH_RECORDS: RecordCount = RecordCount(5);
+// What opening a batch asks room for besides a payment: its header, and two trailers.
+const BATCH_ENDS: RecordCount = RecordCount(3);
+
+// The least records of a payment, where no kind of batch is named.
+const LEAST_DETAILS: RecordCount = RecordCount(2);
 
 // The trailers of the batch and of the file.
 const TRAILERS: RecordCount = RecordCount(2);
@@ -54,7 +62,7 @@ pub(crate) fn turns_at(phase: Phase) -> Turns
         Phase::Opened => {
             may.payment = true;
         }
-        Phase::Begun => {}
+        Phase::Within(_) => {}
         Phase::Paid => {
             may.payment = true;
             may.trailer = true;
@@ -81,28 +89,55 @@ fn is_held(m: Checker) -> bool
     }
     let closed = m.closed();
     let current = m.current();
-    let few = current.records.0 <= 1 + MOST_DETAILS * current.payments;
-    few & closed.cents.fit_a_file(current.cents)
+    let few = current.records().0 <= 1 + MOST_DETAILS * current.payments();
+    few & closed.cents().fit_a_file(current.cents())
 }
 
 // Whether a file with these records has room for more. No sum is made that could wrap.
 fn fits_file(m: Checker, more: RecordCount) -> bool
     ensures { λ r. ⌜ r ≡ fitsFile (recordsSoFar m) (more .0) ⌝ }
 {
-    let so_far = m.closed().records.plus(m.current().records);
+    let so_far = m.closed().records().plus(m.current().records());
     so_far.fit_a_file(more)
 }
 
+// The kind of batch that a header's service and form name as they are given.
+fn kind_given(dir: Direction, v: Fields) -> Batch
+    ensures { λ r. ⌜ r ≡ kindGiven dir v ⌝ }
+{
+    let Number::Is(service) = v.number_at(names::BATCH_HEADER_SERVICE) else {
+        return Batch::Unknown;
+    };
+    let Number::Is(form) = v.number_at(names::BATCH_HEADER_FORM) else {
+        return Batch::Unknown;
+    };
+    layout::batch_with(dir, service, form)
+}
+
+// The least records of a payment.
+fn least_details(batch: Batch) -> RecordCount
+    ensures { λ r. ⌜ (r .0 ≡ leastDetails batch) × (r .0 ≤ mostDetails) ⌝ }
+{
+    let records = checker::records_of(batch);
+    if records == 0 {
+        LEAST_DETAILS
+    } else {
+        RecordCount(records as u64)
+    }
+}
+
 // What opening a batch asks beyond its turn.
-pub(crate) fn batch_limits(m: Checker) -> Answer
-    ensures { λ r. ⌜ r ≡ firstBroken (batchLimits m) ⌝ }
+pub(crate) fn batch_limits(m: Checker, v: Fields) -> Answer
+    ensures { λ r. ⌜ r ≡ firstBroken (batchLimits v m) ⌝ }
 {
     let few = Answer::test(
         numbers::TOO_MANY,
         places::TYPE,
-        m.closed().batches < MOST_BATCHES,
+        m.closed().batches() < MOST_BATCHES,
     );
-    few.and_then(Answer::test(numbers::TOO_LONG, 0, fits_file(m, BATCH_RECORDS)))
+    let least = least_details(kind_given(m.direction(), v));
+    let fits = fits_file(m, least.plus(BATCH_ENDS));
+    few.and_then(Answer::test(numbers::TOO_LONG, 0, fits))
 }
 
 // What a payment of so many records asks beyond its turn.
@@ -113,7 +148,7 @@ pub(crate) fn payment_limits(m: Checker, details: RecordCount) -> Answer
     let few = Answer::test(
         numbers::TOO_MANY,
         places::SEGMENT,
-        m.current().payments < MOST_PAYMENTS,
+        m.current().payments() < MOST_PAYMENTS,
     );
     few.and_then(Answer::test(numbers::TOO_LONG, 0, fits_file(m, details.plus(TRAILERS))))
 }

@@ -19,20 +19,25 @@ use Rattle.digits.specs.laws.Numerals.{given}
 use Rattle.digits.specs.declared.spelling.Number.{Number}
 use Rattle.digits.specs.declared.spelling.Number.the-variants.{Is, Not}
 use Rattle.calendar.specs.Calendar.{numberFits}
-use Rattle.layout.specs.Table.{Field, part, line, typeOf, typePlace, fieldsOf, recordBytes, bankField, batchField, numberField, segmentField, segmentFields, segmentPlace, batchRecords, batchSum, fileBatches, fileRecords}
+use Rattle.layout.specs.Field.{Field, part}
+use Rattle.layout.specs.Table.{line, typePlace, fieldsOf, recordBytes, bankField, batchField, numberField, segmentField, segmentFields, segmentPlace, batchRecords, batchSum, fileBatches, fileRecords}
+use Rattle.layout.specs.Records.{shapeOf, typeOf}
+use Rattle.layout.specs.laws.Records.{by-type}
 use Rattle.layout.specs.Kinds.{same}
 use Rattle.layout.specs.Record.{fieldRules, rulesOf}
 use Rattle.layout.specs.laws.Bytes.{same-self, same-true}
 use Rattle.layout.specs.declared.Direction.{Direction}
 use Rattle.layout.specs.declared.Record.{Record}
-use Rattle.layout.specs.declared.Record.the-variants.{FileHeader, BatchHeader, SegmentA, SegmentB, SegmentJ, SegmentJ52, SegmentZ, BatchTrailer, FileTrailer}
+use Rattle.layout.specs.declared.Record.the-variants.{FileHeader, BatchHeader, SegmentZ, BatchTrailer, FileTrailer}
+use Rattle.layout.specs.declared.shapes.LineType.the-variants.{FileFirst, BatchFirst, Detail, BatchLast, FileLast}
 use Rattle.layout.specs.declared.pairs.Batch.{Batch}
-use Rattle.checker.specs.Totals.{paymentsOf}
-use Rattle.checker.specs.Line.{bank, batchNumber, ordinal, mostPayments, headerBatch, trailerBatch, reads, within, behind, between, houseRules, detailRules, rulesAs, lineIs}
+use Rattle.checker.specs.Totals.{batchCount, recordCount, paymentCount, centSum, paymentsOf}
+use Rattle.checker.specs.Line.{bank, batchNumber, ordinal, mostPayments, headerBatch, trailerBatch, reads, within, behind, between, houseRules, rulesOfType, rulesAs, lineIs}
 use Rattle.checker.specs.declared.order.Reading.the-variants.{Line}
 use Rattle.checker.specs.declared.Checker.{Checker}
-use Rattle.checker.specs.laws.Edges.{Begins, by-A, by-J, Follows, read-by}
-use Rattle.checker.specs.laws.Details.{inDetail, asked, AllRead, Limit, line-first, Detail, detail-of}
+use Rattle.checker.specs.laws.Payments.{Stands, row}
+use Rattle.checker.specs.laws.Edges.{Follows, read-by}
+use Rattle.checker.specs.laws.Details.{inDetail, asked, AllRead, Limit, line-first, DetailRow, detail-row, detail-of}
 
 -- what is asked of a record in a state
 pub record Body (r : Record) (s : Checker) (rec : List ℕ) : Type 0 where
@@ -40,6 +45,12 @@ pub record Body (r : Record) (s : Checker) (rec : List ℕ) : Type 0 where
   pub house : AllKept (houseRules r rec)
   pub numbers : AllRead (asked r s) rec
   pub limit : Limit r s
+
+-- without the house's rules
+record Own (r : Record) (s : Checker) (rec : List ℕ) : Type 0 where
+  fields : AllKept (rulesOf (fieldsOf r) (s .dir) rec)
+  numbers : AllRead (asked r s) rec
+  limit : Limit r s
 
 -- ---- a rule that a field reads a number
 
@@ -90,21 +101,22 @@ module _ (r : Record) (d : Direction) (rec : List ℕ) (k : AllKept (rulesOf (fi
   type-at = byte-at typePlace rec (lit≤ tt) ((rw (line-first r) at k) .1 .1 .0)
 
   -- a detail's fields behind the type, its letter being b
-  numbered : {b : ℕ} → Detail r → segmentFields r ≡ segmentField b ∷ [] → AllKept (rulesOf (numberField ∷ segmentField b ∷ behind segmentPlace r) d rec)
+  numbered : {b : ℕ} → DetailRow r → segmentFields r ≡ segmentField b ∷ [] → AllKept (rulesOf (numberField ∷ segmentField b ∷ behind segmentPlace r) d rec)
   numbered o m = rw (o .begun, m) at (within-kept (suc typePlace) recordBytes (fieldsOf r) d rec k)
 
   pub letter-at : {b : ℕ} → typeOf r ≡ digitByte 3 → segmentFields r ≡ segmentField b ∷ [] → place segmentPlace rec ≡ b
   unfolding AllKept rulesOf
   letter-at e m = byte-at segmentPlace rec (lit≤ tt) (numbered (detail-of r e) m .1 .0)
 
-  marks-kept : Detail r → AllKept (rulesOf (segmentFields r) d rec)
+  marks-kept : DetailRow r → AllKept (rulesOf (segmentFields r) d rec)
   unfolding AllKept rulesOf
   marks-kept o = rw (o .marked) (numbered o (o .marked) .1 .0, tt)
 
 -- what may follow and has right fields is read as it is: Z by its letter, and what begins a payment has another
-not-z : {b : Batch} {r : Record} (d : Direction) (rec : List ℕ) → AllKept (rulesOf (fieldsOf r) d rec) → Begins b r → place segmentPlace rec ≡ 90 → ⊥
-not-z d rec k by-A e = omega (arith, letter-at SegmentA d rec k refl refl)
-not-z d rec k by-J e = omega (arith, letter-at SegmentJ d rec k refl refl)
+not-z : {b : Batch} {n : ℕ} {r : Record} (d : Direction) (rec : List ℕ) → AllKept (rulesOf (fieldsOf r) d rec) → Stands b n r → place segmentPlace rec ≡ 90 → ⊥
+not-z {r = r} d rec k g e =
+    let letter = letter-at r d rec k (row g .type) (row g .marked) in
+    never (sym (row g .no-z) ∙ eq-eqb _ _ (sym letter ∙ e))
 
 pub read-right : (s : Checker) (rec : List ℕ) {r : Record} → Follows (s .dir) (s .batch) (s .phase) r → AllKept (rulesOf (fieldsOf r) (s .dir) rec)
     → lineIs s rec ≡ Line r
@@ -147,82 +159,71 @@ module _ (s : Checker) (rec : List ℕ) where
 
   -- ---- a detail, of whichever kind
 
-  module _ (r : Record) (o : Detail r) where
-    detail-fits : length rec ≡ recordBytes → place typePlace rec ≡ typeOf r → AllKept (rulesAs r s rec) → Body r s rec
-    unfolding AllKept AllRead rulesOf detailRules
-    detail-fits long type kept =
-        let k : AllKept (detailRules r s rec) = rw (o .rules) at kept in
+  module _ (r : Record) (o : DetailRow r) where
+    detail-fits : length rec ≡ recordBytes → place typePlace rec ≡ typeOf r → AllKept (rulesOfType Detail r s rec) → Own r s rec
+    unfolding AllKept AllRead rulesOf rulesOfType
+    detail-fits long type k =
         let marks = rulesOf (segmentFields r) (s .dir) rec in
-        let then = rule 20 segmentPlace (leb (s .current .payments + paymentsOf r) mostPayments) ∷ rulesOf (behind segmentPlace r) (s .dir) rec in
+        let then = rule 20 segmentPlace (leb (paymentCount (s .current) + paymentsOf r) mostPayments) ∷ rulesOf (behind segmentPlace r) (s .dir) rec in
         let bank = is-read bankField (s .bank) (k .0) in
         let batch = is-read batchField (ordinal s) (k .1 .0) in
-        let number = is-read numberField (s .current .records .0) (k .1 .1 .0) in
-        let fields = kept-front (marks ++ then) (houseRules r rec) (k .1 .1 .1) in
-        let later = kept-behind marks then fields in
-        let front = digits-in numberField (s .current .records .0) number in
+        let number = is-read numberField (recordCount (s .current)) (k .1 .1 .0) in
+        let later = kept-behind marks then (k .1 .1 .1) in
+        let front = digits-in numberField (recordCount (s .current)) number in
         let behind-type : AllKept (rulesOf (numberField ∷ (segmentFields r ++ behind segmentPlace r)) (s .dir) rec) =
-        (front, fields-join (segmentFields r) (behind segmentPlace r) (s .dir) rec (kept-front marks then fields) (later .1)) in
+        (front, fields-join (segmentFields r) (behind segmentPlace r) (s .dir) rec (kept-front marks then (k .1 .1 .1)) (later .1)) in
         record {
           fields = all-kept r long type (digits-in bankField _ bank) (digits-in batchField _ batch) (rw (o .begun) behind-type);
-          house = kept-behind (marks ++ then) (houseRules r rec) (k .1 .1 .1);
           numbers = rw (o .asks s) (bank, (batch, (number, tt)));
           limit = o .limits s .0 (leb-true _ _ (later .0));
         }
 
-    -- the rules before the house's
-    abbrev front : List Rule
-    front =
-        bank s rec
-        ∷ batchNumber (ordinal s) rec
-        ∷ reads 10 numberField (s .current .records .0) rec
-        ∷ rulesOf (segmentFields r) (s .dir) rec
-        ++ rule 20 segmentPlace (leb (s .current .payments + paymentsOf r) mostPayments)
-        ∷ rulesOf (behind segmentPlace r) (s .dir) rec
-
-    front-kept : AllKept (rulesOf (fieldsOf r) (s .dir) rec) → AllRead (asked r s) rec → Limit r s → AllKept front
-    unfolding AllRead
-    front-kept fields numbers limit =
-        let marks = marks-kept r (s .dir) rec fields o in
-        let n : AllRead (inDetail s) rec = rw (o .asks s) at numbers in
+    detail-kept : Own r s rec → AllKept (rulesOfType Detail r s rec)
+    unfolding AllRead rulesOfType
+    detail-kept b =
+        let marks = marks-kept r (s .dir) rec (b .fields) o in
+        let n : AllRead (inDetail s) rec = rw (o .asks s) at (b .numbers) in
         kept-join _ _
         (ahead _ _ (n .0) (n .1 .0) (more-kept _ _ (read-is numberField _ (n .1 .1 .0)) marks))
-        (more-kept _ _ (le-leb _ _ (o .limits s .1 limit)) (some-kept r _ _ fields))
+        (more-kept _ _ (le-leb _ _ (o .limits s .1 (b .limit))) (some-kept r _ _ (b .fields)))
 
-    detail-kept : Body r s rec → AllKept (rulesAs r s rec)
-    unfolding detailRules
-    detail-kept b = rw (o .rules) (kept-join front (houseRules r rec) (front-kept (b .fields) (b .numbers) (b .limit)) (b .house))
+  -- ---- headers and trailers
 
-    detail-answers : AllKept (rulesOf (fieldsOf r) (s .dir) rec) → AllRead (asked r s) rec → Limit r s
-        → firstBroken (rulesAs r s rec) ≡ firstBroken (houseRules r rec)
-    unfolding detailRules
-    detail-answers fields numbers limit = rw (o .rules) (sym (gone-on front (houseRules r rec) (kept-accepted front (front-kept fields numbers limit))))
-
-  -- ---- each record
-
-  pub record-fits : (r : Record) → length rec ≡ recordBytes → place typePlace rec ≡ typeOf r → AllKept (rulesAs r s rec) → Body r s rec
-  unfolding AllKept AllRead rulesOf rulesAs fieldsOf within
-  record-fits FileHeader long type k =
+  file-header-fits : length rec ≡ recordBytes → place typePlace rec ≡ typeOf FileHeader → AllKept (rulesOfType FileFirst FileHeader s rec) → Own FileHeader s rec
+  unfolding AllKept AllRead rulesOf rulesOfType fieldsOf within
+  file-header-fits long type k =
       let batch = is-read batchField headerBatch (k .1 .0) in
-      record { fields = all-kept FileHeader long type (k .0) (digits-in batchField _ batch) (k .1 .1); house = tt; numbers = (batch, tt); limit = tt }
-  record-fits BatchHeader long type k =
+      record { fields = all-kept FileHeader long type (k .0) (digits-in batchField _ batch) (k .1 .1); numbers = (batch, tt); limit = tt }
+
+  file-header-kept : Own FileHeader s rec → AllKept (rulesOfType FileFirst FileHeader s rec)
+  unfolding AllRead rulesOfType
+  file-header-kept b =
+      more-kept _ _ (bank-digits (s .dir) rec (b .fields)) (more-kept _ _ (read-is batchField _ (b .numbers .0)) (some-kept FileHeader _ _ (b .fields)))
+
+  batch-header-fits : length rec ≡ recordBytes → place typePlace rec ≡ typeOf BatchHeader → AllKept (rulesOfType BatchFirst BatchHeader s rec) → Own BatchHeader s rec
+  unfolding AllKept AllRead rulesOf rulesOfType fieldsOf within
+  batch-header-fits long type k =
       let bank = is-read bankField (s .bank) (k .1 .0) in
       let batch = is-read batchField (ordinal s) (k .1 .1 .0) in
       record {
         fields = all-kept BatchHeader long type (digits-in bankField _ bank) (digits-in batchField _ batch) (k .1 .1 .1);
-        house = tt;
         numbers = (bank, (batch, tt));
         limit = leb-true _ _ (k .0);
       }
-  record-fits SegmentA long type k = detail-fits SegmentA (detail-of SegmentA refl) long type k
-  record-fits SegmentB long type k = detail-fits SegmentB (detail-of SegmentB refl) long type k
-  record-fits SegmentJ long type k = detail-fits SegmentJ (detail-of SegmentJ refl) long type k
-  record-fits SegmentJ52 long type k = detail-fits SegmentJ52 (detail-of SegmentJ52 refl) long type k
-  record-fits SegmentZ long type k = detail-fits SegmentZ (detail-of SegmentZ refl) long type k
-  record-fits BatchTrailer long type k =
+
+  batch-header-kept : Own BatchHeader s rec → AllKept (rulesOfType BatchFirst BatchHeader s rec)
+  unfolding AllRead rulesOfType
+  batch-header-kept b =
+      let n = b .numbers in
+      more-kept _ _ (le-leb _ _ (b .limit)) (ahead _ _ (n .0) (n .1 .0) (some-kept BatchHeader _ _ (b .fields)))
+
+  batch-trailer-fits : length rec ≡ recordBytes → place typePlace rec ≡ typeOf BatchTrailer → AllKept (rulesOfType BatchLast BatchTrailer s rec) → Own BatchTrailer s rec
+  unfolding AllKept AllRead rulesOf rulesOfType fieldsOf within
+  batch-trailer-fits long type k =
       let early = between typePlace (batchRecords .to) BatchTrailer in
       let late = behind (batchRecords .to) BatchTrailer in
-      let counted = reads 21 batchRecords (s .current .records .0 + 1) rec ∷ rulesOf late (s .dir) rec in
-      let ends = reads 22 batchSum (s .current .cents .0) rec ∷ rule 23 (batchSum .from) (ltb (s .closed .cents .0 + s .current .cents .0) fileCents) ∷ [] in
+      let counted = reads 21 batchRecords (recordCount (s .current) + 1) rec ∷ rulesOf late (s .dir) rec in
+      let ends = reads 22 batchSum (centSum (s .current)) rec ∷ rule 23 (batchSum .from) (ltb (centSum (s .closed) + centSum (s .current)) fileCents) ∷ [] in
       let fields = kept-front (rulesOf early (s .dir) rec ++ counted) ends (k .1 .1) in
       let last = kept-behind (rulesOf early (s .dir) rec ++ counted) ends (k .1 .1) in
       let counts = kept-behind (rulesOf early (s .dir) rec) counted fields in
@@ -232,16 +233,29 @@ module _ (s : Checker) (rec : List ℕ) where
         fields =
             all-kept BatchTrailer long type (digits-in bankField _ bank) (digits-in batchField _ batch)
             (fields-join early late (s .dir) rec (kept-front (rulesOf early (s .dir) rec) counted fields) (counts .1));
-        house = tt;
         numbers = (bank, (batch, (is-read batchRecords _ (counts .0), (is-read batchSum _ (last .0), tt))));
         limit = ltb-true _ _ (last .1 .0);
       }
-  record-fits FileTrailer long type k =
+
+  batch-trailer-kept : Own BatchTrailer s rec → AllKept (rulesOfType BatchLast BatchTrailer s rec)
+  unfolding AllRead rulesOfType
+  batch-trailer-kept b =
+      let n = b .numbers in
+      let some : (i j : ℕ) → AllKept (rulesOf (within i j (fieldsOf BatchTrailer)) (s .dir) rec) = λ i j. some-kept BatchTrailer i j (b .fields) in
+      kept-join _ _
+      (kept-join _ _
+      (ahead _ _ (n .0) (n .1 .0) (some _ _))
+      (more-kept _ _ (read-is batchRecords _ (n .1 .1 .0)) (some _ _)))
+      (more-kept _ _ (read-is batchSum _ (n .1 .1 .1 .0)) (more-kept _ _ (lt-ltb _ _ (b .limit)) none-kept))
+
+  file-trailer-fits : length rec ≡ recordBytes → place typePlace rec ≡ typeOf FileTrailer → AllKept (rulesOfType FileLast FileTrailer s rec) → Own FileTrailer s rec
+  unfolding AllKept AllRead rulesOf rulesOfType fieldsOf within
+  file-trailer-fits long type k =
       let early = between typePlace (fileBatches .to) FileTrailer in
       let middle = between (fileBatches .to) (fileRecords .to) FileTrailer in
       let late = behind (fileRecords .to) FileTrailer in
-      let batches = reads 21 fileBatches (s .closed .batches) rec ∷ rulesOf middle (s .dir) rec in
-      let records = reads 21 fileRecords (s .closed .records .0 + 1) rec ∷ rulesOf late (s .dir) rec in
+      let batches = reads 21 fileBatches (batchCount (s .closed)) rec ∷ rulesOf middle (s .dir) rec in
+      let records = reads 21 fileRecords (recordCount (s .closed) + 1) rec ∷ rulesOf late (s .dir) rec in
       let fields = kept-front (rulesOf early (s .dir) rec ++ batches) records (k .1 .1) in
       let last = kept-behind (rulesOf early (s .dir) rec ++ batches) records (k .1 .1) in
       let counts = kept-behind (rulesOf early (s .dir) rec) batches fields in
@@ -252,32 +266,13 @@ module _ (s : Checker) (rec : List ℕ) where
             all-kept FileTrailer long type (digits-in bankField _ bank) (digits-in batchField _ batch)
             (fields-join early (middle ++ late) (s .dir) rec (kept-front (rulesOf early (s .dir) rec) batches fields)
             (fields-join middle late (s .dir) rec (counts .1) (last .1)));
-        house = tt;
         numbers = (bank, (batch, (is-read fileBatches _ (counts .0), (is-read fileRecords _ (last .0), tt))));
         limit = tt;
       }
 
-  pub record-kept : (r : Record) → Body r s rec → AllKept (rulesAs r s rec)
-  unfolding AllRead rulesAs
-  record-kept FileHeader b =
-      more-kept _ _ (bank-digits (s .dir) rec (b .fields)) (more-kept _ _ (read-is batchField _ (b .numbers .0)) (some-kept FileHeader _ _ (b .fields)))
-  record-kept BatchHeader b =
-      let n = b .numbers in
-      more-kept _ _ (le-leb _ _ (b .limit)) (ahead _ _ (n .0) (n .1 .0) (some-kept BatchHeader _ _ (b .fields)))
-  record-kept SegmentA b = detail-kept SegmentA (detail-of SegmentA refl) b
-  record-kept SegmentB b = detail-kept SegmentB (detail-of SegmentB refl) b
-  record-kept SegmentJ b = detail-kept SegmentJ (detail-of SegmentJ refl) b
-  record-kept SegmentJ52 b = detail-kept SegmentJ52 (detail-of SegmentJ52 refl) b
-  record-kept SegmentZ b = detail-kept SegmentZ (detail-of SegmentZ refl) b
-  record-kept BatchTrailer b =
-      let n = b .numbers in
-      let some : (i j : ℕ) → AllKept (rulesOf (within i j (fieldsOf BatchTrailer)) (s .dir) rec) = λ i j. some-kept BatchTrailer i j (b .fields) in
-      kept-join _ _
-      (kept-join _ _
-      (ahead _ _ (n .0) (n .1 .0) (some _ _))
-      (more-kept _ _ (read-is batchRecords _ (n .1 .1 .0)) (some _ _)))
-      (more-kept _ _ (read-is batchSum _ (n .1 .1 .1 .0)) (more-kept _ _ (lt-ltb _ _ (b .limit)) none-kept))
-  record-kept FileTrailer b =
+  file-trailer-kept : Own FileTrailer s rec → AllKept (rulesOfType FileLast FileTrailer s rec)
+  unfolding AllRead rulesOfType
+  file-trailer-kept b =
       let n = b .numbers in
       let some : (i j : ℕ) → AllKept (rulesOf (within i j (fieldsOf FileTrailer)) (s .dir) rec) = λ i j. some-kept FileTrailer i j (b .fields) in
       kept-join _ _
@@ -286,19 +281,33 @@ module _ (s : Checker) (rec : List ℕ) where
       (more-kept _ _ (read-is fileBatches _ (n .1 .1 .0)) (some _ _)))
       (more-kept _ _ (read-is fileRecords _ (n .1 .1 .1 .0)) (some _ _))
 
-  -- beside the house rules all is right: then the house answers
-  plain : (r : Record) → AllKept (rulesOf (fieldsOf r) (s .dir) rec) → AllRead (asked r s) rec → Limit r s → AllKept (houseRules r rec)
-      → firstBroken (rulesAs r s rec) ≡ firstBroken (houseRules r rec)
-  plain r f n l h = kept-accepted _ (record-kept r (record { fields = f; house = h; numbers = n; limit = l })) ∙ sym (kept-accepted _ h)
+  -- ---- each record
 
+  own-fits : (r : Record) → length rec ≡ recordBytes → place typePlace rec ≡ typeOf r → AllKept (rulesOfType (shapeOf r .line) r s rec) → Own r s rec
+  own-fits =
+      by-type (λ r. length rec ≡ recordBytes → place typePlace rec ≡ typeOf r → AllKept (rulesOfType (shapeOf r .line) r s rec) → Own r s rec)
+      file-header-fits batch-header-fits (λ r e long type k. detail-fits r (detail-row r e) long type (rw e at k)) batch-trailer-fits file-trailer-fits
+
+  own-kept : (r : Record) → Own r s rec → AllKept (rulesOfType (shapeOf r .line) r s rec)
+  own-kept =
+      by-type (λ r. Own r s rec → AllKept (rulesOfType (shapeOf r .line) r s rec))
+      file-header-kept batch-header-kept (λ r e b. rw e (detail-kept r (detail-row r e) b)) batch-trailer-kept file-trailer-kept
+
+  pub record-fits : (r : Record) → length rec ≡ recordBytes → place typePlace rec ≡ typeOf r → AllKept (rulesAs r s rec) → Body r s rec
+  unfolding rulesAs
+  record-fits r long type k =
+      let own = rulesOfType (shapeOf r .line) r s rec in
+      let b = own-fits r long type (kept-front own (houseRules r rec) k) in
+      record { fields = b .fields; house = kept-behind own (houseRules r rec) k; numbers = b .numbers; limit = b .limit }
+
+  pub record-kept : (r : Record) → Body r s rec → AllKept (rulesAs r s rec)
+  unfolding rulesAs
+  record-kept r b = kept-join _ _ (own-kept r (record { fields = b .fields; numbers = b .numbers; limit = b .limit })) (b .house)
+
+  -- beside the house rules all is right: then the house answers
   pub record-answers : (r : Record) → AllKept (rulesOf (fieldsOf r) (s .dir) rec) → AllRead (asked r s) rec → Limit r s
       → firstBroken (rulesAs r s rec) ≡ firstBroken (houseRules r rec)
-  record-answers FileHeader f n l = plain FileHeader f n l none-kept
-  record-answers BatchHeader f n l = plain BatchHeader f n l none-kept
-  record-answers SegmentA f n l = detail-answers SegmentA (detail-of SegmentA refl) f n l
-  record-answers SegmentB f n l = detail-answers SegmentB (detail-of SegmentB refl) f n l
-  record-answers SegmentJ f n l = detail-answers SegmentJ (detail-of SegmentJ refl) f n l
-  record-answers SegmentJ52 f n l = detail-answers SegmentJ52 (detail-of SegmentJ52 refl) f n l
-  record-answers SegmentZ f n l = detail-answers SegmentZ (detail-of SegmentZ refl) f n l
-  record-answers BatchTrailer f n l = plain BatchTrailer f n l none-kept
-  record-answers FileTrailer f n l = plain FileTrailer f n l none-kept
+  unfolding rulesAs
+  record-answers r f n l =
+      let own = rulesOfType (shapeOf r .line) r s rec in
+      sym (gone-on own (houseRules r rec) (kept-accepted own (own-kept r (record { fields = f; numbers = n; limit = l }))))

@@ -6,16 +6,19 @@ use Prim.Native.Nat.{ℕ, _*_, _^_, _≤_}
 use native.Mathlib.Omega.{arith}
 use borrow.Author.Tests.{leb-true, ltb-true, le-leb, lt-ltb}
 use lib.Dec.{leb, ltb}
-use lib.ListN.{length-take}
+use lib.ListN.{length, length-take}
 use Rattle.digits.specs.laws.Numerals.{value-lt}
-use Rattle.layout.specs.Table.{part, creditAmount, boletoAmount}
+use Rattle.layout.specs.Field.{Field, part}
+use Rattle.layout.specs.Records.{shapeOf, amountField, creditAmount, boletoAmount}
 use Rattle.layout.specs.laws.Bytes.{and-left, and-right}
 use Rattle.layout.specs.declared.Record.{Record}
-use Rattle.layout.specs.declared.Record.the-variants.{FileHeader, BatchHeader, SegmentA, SegmentB, SegmentJ, SegmentJ52, SegmentZ, BatchTrailer, FileTrailer}
-use Rattle.checker.specs.Totals.{totals, add, counts, batchesOf, paymentsOf, centsOf, amountDigits}
+use Rattle.layout.specs.declared.shapes.LineType.{LineType}
+use Rattle.layout.specs.declared.shapes.LineType.the-variants.{FileFirst, BatchFirst, Detail, BatchLast, FileLast}
+use Rattle.layout.specs.declared.shapes.Amount.{Amount}
+use Rattle.layout.specs.declared.shapes.Amount.the-variants.{NoAmount, AmountOfA, AmountOfJ}
+use Rattle.checker.specs.Totals.{add, opens, centsIn, counts, amountDigits, batchCount, centSum, paymentCount, recordCount}
 use Rattle.checker.specs.Machine.{sound}
-use Rattle.checker.specs.inner.Steps.{Bounded, FitSum}
-use Rattle.checker.specs.declared.totals.Totals.{Totals}
+use Rattle.checker.specs.inner.Steps.{Bounded, Room}
 use Rattle.checker.specs.declared.Checker.{Checker}
 
 -- `sound`, read as facts
@@ -25,13 +28,13 @@ both a {b} e = (and-left a b e, and-right a b e)
 pub bounded : (s : Checker) → sound s ≡ true → Bounded s
 unfolding sound
 bounded s e =
-    let e0 = both (leb (s .closed .batches) _) e in
-    let e1 = both (leb (s .closed .records .0) _) (e0 .1) in
-    let e2 = both (leb (s .closed .payments) _) (e1 .1) in
-    let e3 = both (ltb (s .closed .cents .0) _) (e2 .1) in
-    let e4 = both (leb (s .current .batches) _) (e3 .1) in
-    let e5 = both (leb (s .current .records .0) _) (e4 .1) in
-    let e6 = both (leb (s .current .payments) _) (e5 .1) in
+    let e0 = both (leb (batchCount (s .closed)) _) e in
+    let e1 = both (leb (recordCount (s .closed)) _) (e0 .1) in
+    let e2 = both (leb (paymentCount (s .closed)) _) (e1 .1) in
+    let e3 = both (ltb (centSum (s .closed)) _) (e2 .1) in
+    let e4 = both (leb (batchCount (s .current)) _) (e3 .1) in
+    let e5 = both (leb (recordCount (s .current)) _) (e4 .1) in
+    let e6 = both (leb (paymentCount (s .current)) _) (e5 .1) in
     record {
       batches = leb-true _ _ (e0 .0);
       records = leb-true _ _ (e1 .0);
@@ -66,36 +69,29 @@ pub record Small (r : Record) (rec : List ℕ) : Type 0 where
   pub payments : counts r rec .payments ≤ 1
   pub cents : counts r rec .cents .0 ≤ counts r rec .payments * 10 ^ amountDigits
 
-pub small : (r : Record) (rec : List ℕ) → Small r rec
-small FileHeader rec = omega arith
-small BatchHeader rec = omega arith
-small SegmentA rec = omega (arith, value-lt amountDigits (part creditAmount rec) (rw length-take (omega arith)))
-small SegmentB rec = omega arith
-small SegmentJ rec = omega (arith, value-lt amountDigits (part boletoAmount rec) (rw length-take (omega arith)))
-small SegmentJ52 rec = omega arith
-small SegmentZ rec = omega arith
-small BatchTrailer rec = omega arith
-small FileTrailer rec = omega arith
+few-opens : (t : LineType) → opens t ≤ 1
+few-opens FileFirst = omega arith
+few-opens BatchFirst = omega arith
+few-opens Detail = omega arith
+few-opens BatchLast = omega arith
+few-opens FileLast = omega arith
 
--- part by part
-pub counts-are : (r : Record) (rec : List ℕ) → totals (batchesOf r) 1 (paymentsOf r) (centsOf r rec) ≡ counts r rec
-counts-are FileHeader rec = refl
-counts-are BatchHeader rec = refl
-counts-are SegmentA rec = refl
-counts-are SegmentB rec = refl
-counts-are SegmentJ rec = refl
-counts-are SegmentJ52 rec = refl
-counts-are SegmentZ rec = refl
-counts-are BatchTrailer rec = refl
-counts-are FileTrailer rec = refl
+-- one amount at most, of fifteen digits
+record OneAmount (fs : List Field) (rec : List ℕ) : Type 0 where
+  one : length fs ≤ 1
+  below : centsIn fs rec ≤ length fs * 10 ^ amountDigits
+
+one-amount : (a : Amount) (rec : List ℕ) → OneAmount (amountField a) rec
+one-amount NoAmount rec = omega arith
+one-amount AmountOfA rec = omega (arith, value-lt amountDigits (part creditAmount rec) (rw length-take (omega arith)))
+one-amount AmountOfJ rec = omega (arith, value-lt amountDigits (part boletoAmount rec) (rw length-take (omega arith)))
+
+pub small : (r : Record) (rec : List ℕ) → Small r rec
+small r rec =
+    let a = one-amount (shapeOf r .amount) rec in
+    record { batches = few-opens (shapeOf r .line); records = refl; payments = a .one; cents = a .below }
 
 -- ---- no sum of a line leaves 64 bits
-
--- the sums that `next` makes: in the open batch, in the file, and at the end of a batch
-pub record Room (s : Checker) (t : Totals) : Type 0 where
-  pub in-batch : FitSum (s .current) t
-  pub in-file : FitSum (s .closed) t
-  pub at-end : FitSum (s .closed) (add (s .current) t)
 
 pub room : {s : Checker} → Bounded s → (r : Record) (rec : List ℕ) → Room s (counts r rec)
 unfolding add

@@ -1,20 +1,25 @@
 -- Every rule of a line names one of the paper's numbers, from 1 to 23, and no line. Assumes nothing.
 use mathlib.Core.Path.{_≡_, refl, subst}
-use mathlib.Core.Bool.{Bool, true, false, cond, _&&_}
+use mathlib.Core.Bool.{Bool, _&&_}
 use mathlib.Core.List.{List, [], _∷_, _++_}
 use Prim.Native.Nat.{ℕ, _≤_}
 use lib.Dec.{T, leb, leb→le}
 use Rattle.answer.specs.Rules.{Rule, rule, noLine, Broken}
 use Rattle.answer.specs.declared.Refusal.{Refusal}
 use Rattle.digits.specs.laws.Tests.{both}
-use Rattle.layout.specs.Table.{Kind, N, Id, T as Text, F, D, Time, K, O, Zeros, Exact, OneOf, Service, Form, Barcode, RecordType, Segment, Field, isOneOf, segmentFields, segmentPlace, typePlace, batchRecords, fileBatches, fileRecords}
+use Rattle.layout.specs.Field.{Kind, N, Id, T as Text, F, D, Time, K, O, Zeros, Exact, OneOf, Service, Form, Barcode, RecordType, Segment, Field}
+use Rattle.layout.specs.Records.{shapeOf}
+use Rattle.layout.specs.Table.{segmentFields, segmentPlace, typePlace, batchRecords, fileBatches, fileRecords}
 use Rattle.layout.specs.Kinds.{Part, means, blankIn}
 use Rattle.layout.specs.Record.{rulesOf, partOf}
 use Rattle.layout.specs.declared.Direction.{Direction}
 use Rattle.layout.specs.declared.Direction.the-variants.{Remittance, Return}
 use Rattle.layout.specs.declared.Record.{Record}
-use Rattle.layout.specs.declared.Record.the-variants.{FileHeader, BatchHeader, SegmentA, SegmentB, SegmentJ, SegmentJ52, SegmentZ, BatchTrailer, FileTrailer}
-use Rattle.checker.specs.Line.{behind, between, houseRules, boletoRules, detailRules, rulesAs, readingRules, lineIs, typeRules, lineRules, rulesOfLine, recordIn}
+use Rattle.layout.specs.declared.shapes.LineType.{LineType}
+use Rattle.layout.specs.declared.shapes.LineType.the-variants.{FileFirst, BatchFirst, Detail, BatchLast, FileLast}
+use Rattle.layout.specs.declared.shapes.House.{House}
+use Rattle.layout.specs.declared.shapes.House.the-variants.{NoRules, RulesOfJ}
+use Rattle.checker.specs.Line.{behind, between, houseBy, boletoRules, rulesOfType, rulesAs, readingRules, lineIs, typeRules, lineRules, rulesOfLine, recordIn}
 use Rattle.checker.specs.declared.order.Reading.{Reading}
 use Rattle.checker.specs.declared.order.Reading.the-variants.{Line, Nothing}
 use Rattle.checker.specs.declared.Checker.{Checker}
@@ -67,42 +72,33 @@ unfolding rulesOf
 fields [] d rec = none
 fields (f ∷ fs) d rec = join (kind (f .kind) (partOf f d rec)) (fields fs d rec)
 
-house : (r : Record) (rec : List ℕ) → Listed (houseRules r rec)
+house : (h : House) (rec : List ℕ) → Listed (houseBy h rec)
 unfolding boletoRules
-house r rec = go (isOneOf r (SegmentJ ∷ []))
-  where
-    go : (b : Bool) → Listed (cond b (boletoRules rec) [])
-    go true = more tt (more tt (more tt (one tt)))
-    go false = none
+house NoRules rec = none
+house RulesOfJ rec = more tt (more tt (more tt (one tt)))
 
-detail : (r : Record) (s : Checker) (rec : List ℕ) → Listed (detailRules r s rec)
-unfolding detailRules
-detail r s rec =
+of-type : (t : LineType) (r : Record) (s : Checker) (rec : List ℕ) → Listed (rulesOfType t r s rec)
+unfolding rulesOfType
+of-type FileFirst r s rec = more tt (more tt (fields (behind typePlace r) (s .dir) rec))
+of-type BatchFirst r s rec = more tt (more tt (more tt (fields (behind typePlace r) (s .dir) rec)))
+of-type Detail r s rec =
+    join (more tt (more tt (more tt (fields (segmentFields r) (s .dir) rec)))) (more tt (fields (behind segmentPlace r) (s .dir) rec))
+of-type BatchLast r s rec =
     join
-    (join (more tt (more tt (more tt (fields (segmentFields r) (s .dir) rec)))) (more tt (fields (behind segmentPlace r) (s .dir) rec)))
-    (house r rec)
+    (join
+    (more tt (more tt (fields (between typePlace (batchRecords .to) r) (s .dir) rec)))
+    (more tt (fields (behind (batchRecords .to) r) (s .dir) rec)))
+    (more tt (one tt))
+of-type FileLast r s rec =
+    join
+    (join
+    (more tt (more tt (fields (between typePlace (fileBatches .to) r) (s .dir) rec)))
+    (more tt (fields (between (fileBatches .to) (fileRecords .to) r) (s .dir) rec)))
+    (more tt (fields (behind (fileRecords .to) r) (s .dir) rec))
 
 read : (r : Record) (s : Checker) (rec : List ℕ) → Listed (rulesAs r s rec)
 unfolding rulesAs
-read FileHeader s rec = more tt (more tt (fields (behind typePlace FileHeader) (s .dir) rec))
-read BatchHeader s rec = more tt (more tt (more tt (fields (behind typePlace BatchHeader) (s .dir) rec)))
-read SegmentA s rec = detail SegmentA s rec
-read SegmentB s rec = detail SegmentB s rec
-read SegmentJ s rec = detail SegmentJ s rec
-read SegmentJ52 s rec = detail SegmentJ52 s rec
-read SegmentZ s rec = detail SegmentZ s rec
-read BatchTrailer s rec =
-    join
-    (join
-    (more tt (more tt (fields (between typePlace (batchRecords .to) BatchTrailer) (s .dir) rec)))
-    (more tt (fields (behind (batchRecords .to) BatchTrailer) (s .dir) rec)))
-    (more tt (one tt))
-read FileTrailer s rec =
-    join
-    (join
-    (more tt (more tt (fields (between typePlace (fileBatches .to) FileTrailer) (s .dir) rec)))
-    (more tt (fields (between (fileBatches .to) (fileRecords .to) FileTrailer) (s .dir) rec)))
-    (more tt (fields (behind (fileRecords .to) FileTrailer) (s .dir) rec))
+read r s rec = join (of-type (shapeOf r .line) r s rec) (house (shapeOf r .house) rec)
 
 reading : (d : Reading) (s : Checker) (rec : List ℕ) → Listed (readingRules d s rec)
 reading (Line r) s rec = read r s rec

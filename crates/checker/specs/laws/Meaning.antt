@@ -15,10 +15,12 @@ use Rattle.answer.specs.declared.Answer.the-variants.{Accepted, Refused}
 use Rattle.digits.specs.Digits.{place}
 use Rattle.layout.specs.Record.{allPrintable}
 use Rattle.layout.specs.declared.Record.{Record}
-use Rattle.layout.specs.declared.Record.the-variants.{FileHeader, BatchHeader, SegmentA, SegmentB, SegmentJ, SegmentJ52, SegmentZ, BatchTrailer, FileTrailer}
-use Rattle.checker.specs.Order.{follows, after, ended}
+use Rattle.layout.specs.declared.shapes.LineType.{LineType}
+use Rattle.layout.specs.declared.shapes.LineType.the-variants.{FileFirst, BatchFirst, Detail, BatchLast, FileLast}
+use Rattle.checker.specs.Order.{follows, ended}
+use Rattle.layout.specs.Records.{shapeOf, after}
 use Rattle.checker.specs.Line.{lineBytes, recordIn, lineIs, rulesAs, found, readingRules, typeRules, lineRules, rulesOfLine}
-use Rattle.checker.specs.Machine.{lineOf, next, moved, sound, stepped, answerTo, stepOf}
+use Rattle.checker.specs.Machine.{lineOf, nextOfType, next, moved, sound, stepped, answerTo, stepOf}
 use Rattle.checker.specs.declared.order.Reading.{Reading}
 use Rattle.checker.specs.declared.order.Reading.the-variants.{Line, Nothing}
 use Rattle.checker.specs.declared.Checker.{Checker}
@@ -63,12 +65,12 @@ answer-on-line (Refused r) s line = refl
 
 -- a sound state answers by the line's rules
 module _ (s : Checker) (line : List ℕ) (ok : sound s ≡ true) where
-  pub by-rules : stepOf s line ≡ answerTo (firstBroken (rulesOfLine s line)) s line
+  pub by-rules : stepOf s line ≡ answerTo (firstBroken (rulesOfLine s line)) s (recordIn line)
   unfolding stepOf
   by-rules = rw ok
 
   pub answered : stepOf s line .answer ≡ onLine (lineOf s) (firstBroken (rulesOfLine s line))
-  answered = ap (λ (x : Stepped). x .answer) by-rules ∙ answer-on-line (firstBroken (rulesOfLine s line)) s line
+  answered = ap (λ (x : Stepped). x .answer) by-rules ∙ answer-on-line (firstBroken (rulesOfLine s line)) s (recordIn line)
 
   -- accepted exactly if every rule is kept
   pub line-accepted : stepOf s line .answer ≡ Accepted ↔ AllKept (rulesOfLine s line)
@@ -104,8 +106,8 @@ module _ (s : Checker) (line : List ℕ) where
   unfolding stepOf
   refused-leaves r e = go (sound s) (firstBroken (rulesOfLine s line)) e
     where
-      go : (b : Bool) (a : Answer) → cond b (answerTo a s line) (stepped s (refusedAs 51 0)) .answer ≡ Refused r
-          → cond b (answerTo a s line) (stepped s (refusedAs 51 0)) .state ≡ s
+      go : (b : Bool) (a : Answer) → cond b (answerTo a s (recordIn line)) (stepped s (refusedAs 51 0)) .answer ≡ Refused r
+          → cond b (answerTo a s (recordIn line)) (stepped s (refusedAs 51 0)) .state ≡ s
       go true Accepted e = never-refused e
       go true (Refused x) e = refl
       go false a e = refl
@@ -115,20 +117,19 @@ module _ (s : Checker) (line : List ℕ) where
   unfolding stepOf
   accepted-sound e = go (sound s) refl e
     where
-      go : (b : Bool) → sound s ≡ b → cond b (answerTo (firstBroken (rulesOfLine s line)) s line) (stepped s (refusedAs 51 0)) .answer ≡ Accepted → sound s ≡ true
+      go : (b : Bool) → sound s ≡ b → cond b (answerTo (firstBroken (rulesOfLine s line)) s (recordIn line)) (stepped s (refusedAs 51 0)) .answer ≡ Accepted → sound s ≡ true
       go true q e = q
       go false q e = never-refused (sym e)
 
 pub next-phase : (r : Record) (s : Checker) (rec : List ℕ) → next r s rec .phase ≡ after r
-next-phase FileHeader s rec = refl
-next-phase BatchHeader s rec = refl
-next-phase SegmentA s rec = refl
-next-phase SegmentB s rec = refl
-next-phase SegmentJ s rec = refl
-next-phase SegmentJ52 s rec = refl
-next-phase SegmentZ s rec = refl
-next-phase BatchTrailer s rec = refl
-next-phase FileTrailer s rec = refl
+next-phase r s rec = go (shapeOf r .line)
+  where
+    go : (t : LineType) → nextOfType t (shapeOf r) s rec .phase ≡ after r
+    go FileFirst = refl
+    go BatchFirst = refl
+    go Detail = refl
+    go BatchLast = refl
+    go FileLast = refl
 
 -- ---- a line's rules, as facts, where it is read as r
 
@@ -190,7 +191,7 @@ kept-line s line k = go (lineIs s rec) refl (typed .0) (typed .1)
 pub line-moves : {r : Record} (s : Checker) (line : List ℕ) → sound s ≡ true → LineAs r s line → stepOf s line .state ≡ next r s (recordIn line)
 line-moves s line ok a =
     ap (λ (x : Stepped). x .state) (by-rules s line ok)
-    ∙ ap (λ (a : Answer). answerTo a s line .state) (kept-accepted (rulesOfLine s line) (line-kept s line a))
+    ∙ ap (λ (a : Answer). answerTo a s (recordIn line) .state) (kept-accepted (rulesOfLine s line) (line-kept s line a))
     ∙ ap (λ (d : Reading). moved d s (recordIn line)) (a .read)
 
 -- an accepted line moves the state along its edge

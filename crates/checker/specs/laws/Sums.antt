@@ -4,9 +4,11 @@ use mathlib.Core.List.{List}
 use Prim.Native.Nat.{ℕ}
 use native.Mathlib.Omega.{arith}
 use Rattle.layout.specs.declared.Record.{Record}
-use Rattle.layout.specs.declared.Record.the-variants.{FileHeader, BatchHeader, SegmentA, SegmentB, SegmentJ, SegmentJ52, SegmentZ, BatchTrailer, FileTrailer}
+use Rattle.layout.specs.declared.shapes.LineType.{LineType}
+use Rattle.layout.specs.declared.shapes.LineType.the-variants.{FileFirst, BatchFirst, Detail, BatchLast, FileLast}
 use Rattle.checker.specs.Totals.{totals, none, add, counts}
-use Rattle.checker.specs.Machine.{next}
+use Rattle.checker.specs.Machine.{nextOfType, next}
+use Rattle.layout.specs.Records.{shapeOf}
 use Rattle.checker.specs.declared.totals.Totals.{Totals}
 use Rattle.checker.specs.declared.Checker.{Checker}
 
@@ -40,12 +42,11 @@ counted s = add (s .closed) (s .current)
 
 pub next-counts : (r : Record) (s : Checker) (rec : List ℕ) → counted (next r s rec) ≡ add (counted s) (counts r rec)
 unfolding add
-next-counts FileHeader s rec = same-totals (omega arith)
-next-counts BatchHeader s rec = same-totals (omega arith)
-next-counts SegmentA s rec = same-totals (omega arith)
-next-counts SegmentB s rec = same-totals (omega arith)
-next-counts SegmentJ s rec = same-totals (omega arith)
-next-counts SegmentJ52 s rec = same-totals (omega arith)
-next-counts SegmentZ s rec = same-totals (omega arith)
-next-counts BatchTrailer s rec = same-totals (omega arith)
-next-counts FileTrailer s rec = same-totals (omega arith)
+next-counts r s rec = go (shapeOf r .line)
+  where
+    go : (t : LineType) → counted (nextOfType t (shapeOf r) s rec) ≡ add (counted s) (counts r rec)
+    go FileFirst = same-totals (omega arith)
+    go BatchFirst = same-totals (omega arith)
+    go Detail = same-totals (omega arith)
+    go BatchLast = same-totals (omega arith)
+    go FileLast = same-totals (omega arith)

@@ -1,6 +1,6 @@
 -- What a field's bytes are where its rules are kept, and what is refused where they are no number. Assumes nothing.
-use mathlib.Core.Path.{_≡_, refl, sym, _∙_}
-use mathlib.Core.Bool.{Bool, true, false, _||_}
+use mathlib.Core.Path.{_≡_, refl, sym, subst, _∙_}
+use mathlib.Core.Bool.{Bool, true, false, cond, not, _||_}
 use mathlib.Core.List.{List, [], _∷_, _++_, append-assoc}
 use Prim.Native.Nat.{ℕ, zero, suc, _≤_, _<_}
 use native.Mathlib.Nat.{not-suc-le-zero, le-of-suc-le-suc}
@@ -20,17 +20,20 @@ use Rattle.digits.specs.declared.spelling.Number.{Number}
 use Rattle.digits.specs.declared.spelling.Number.the-variants.{Is, Not}
 use Rattle.calendar.specs.Calendar.{numberFits, dateFits, timeFits}
 use Rattle.layout.specs.Pairs.{Pairs, pairs, among, batchAmong, batchOf, known}
-use Rattle.layout.specs.Table.{Kind, N, Id, T as Text, F, D, Time, K, O, Zeros, Exact, OneOf, Service, Form, Barcode, RecordType, Segment, Field, field, part, fieldsOf, recordBytes, none, serviceField, formField}
+use Rattle.layout.specs.Field.{Kind, N, Id, T as Text, F, D, Time, K, O, Zeros, Exact, OneOf, Service, Form, Barcode, RecordType, Segment, Field, field, part, none}
+use Rattle.layout.specs.Table.{fieldsOf, recordBytes, serviceField, formField}
 use Rattle.layout.specs.Kinds.{Held, asNumber, asBytes, asFixed, means, isFixed, oneOf}
-use Rattle.layout.specs.Record.{partOf, fieldRules, rulesOf, firstRules, recordRules}
+use Rattle.layout.specs.Record.{fieldRules, rulesOf, firstRules, recordRules}
 use Rattle.layout.specs.laws.Bytes.{and-left, and-right, same-true, no-service, no-form}
 use Rattle.layout.specs.laws.Tiling.{All, at}
 use Rattle.layout.specs.laws.Sound.{width, fills, stands, proper, Sound, sound-at}
 use Rattle.layout.specs.declared.Direction.{Direction}
 use Rattle.layout.specs.declared.Record.{Record}
-use Rattle.layout.specs.declared.Record.the-variants.{FileHeader, BatchHeader, SegmentA, SegmentB, SegmentJ, SegmentJ52, SegmentZ, BatchTrailer, FileTrailer}
+use Rattle.layout.specs.declared.Record.the-variants.{BatchHeader}
+use Rattle.layout.specs.Records.{code}
+use Rattle.layout.specs.laws.Records.{each, same-code}
 use Rattle.fields.specs.Values.{heldAs}
-use Rattle.fields.specs.laws.Wide.{carrier, wideNumber, widePlace}
+use Rattle.fields.specs.laws.Wide.{wide, carrier, wideNumber, widePlace}
 
 -- ---- bytes that give a number
 
@@ -157,20 +160,36 @@ unfolding rulesOf All
 each-accepted [] d rec e = tt
 each-accepted (f ∷ fs) d rec e = (front-accepted (fieldRules f d rec) _ e, each-accepted fs d rec (back-accepted (fieldRules f d rec) _ e))
 
--- what holds at each field of a record holds at the field that carries its rule
-carried : (r : Record) (P : Field → Type 0) → All P (fieldsOf r) → All (λ f. P (carrier f)) (fieldsOf r)
+-- what holds at each field of a record holds at the field that carries its rule: at the service, where one is paired
+abbrev somePaired : List Field → Bool
+somePaired [] = false
+somePaired (f ∷ fs) = wide (f .kind) .paired || somePaired fs
+
+carried-in : (P : Field → Type 0) (fs : List Field) → (somePaired fs ≡ true → P serviceField) → All P fs → All (λ f. P (carrier f)) fs
+unfolding All
+carried-in P [] service a = a
+carried-in P (f ∷ fs) service a = go (wide (f .kind) .paired) service (λ s. carried-in P fs s (a .1))
+  where
+    go : (b : Bool) → (b || somePaired fs ≡ true → P serviceField) → ((somePaired fs ≡ true → P serviceField) → All (λ f. P (carrier f)) fs)
+        → P (cond b serviceField f) × All (λ f. P (carrier f)) fs
+    go true service later = (service refl, later (λ e. service refl))
+    go false service later = (a .0, later service)
+
+-- only the batch header has a pair
+pair-of : (b : Bool) {n : ℕ} → T (not b || eqb n 1) → b ≡ true → n ≡ 1
+pair-of true {n} t e = eqb→eq n 1 t
+pair-of false t e = never e
+
+paired-header : (r : Record) → somePaired (fieldsOf r) ≡ true → r ≡ BatchHeader
+unfolding fieldsOf
+paired-header r e = same-code r BatchHeader (pair-of (somePaired (fieldsOf r)) (each (λ r. not (somePaired (fieldsOf r)) || eqb (code r) 1) tt r) e)
+
+service-in : (P : Field → Type 0) → All P (fieldsOf BatchHeader) → P serviceField
 unfolding All fieldsOf
-carried FileHeader P a = a
-carried BatchHeader P a =
-    let service = a .1 .1 .1 .1 .0 in
-    (a .0, (a .1 .0, (a .1 .1 .0, (a .1 .1 .1 .0, (service, (service, a .1 .1 .1 .1 .1 .1))))))
-carried SegmentA P a = a
-carried SegmentB P a = a
-carried SegmentJ P a = a
-carried SegmentJ52 P a = a
-carried SegmentZ P a = a
-carried BatchTrailer P a = a
-carried FileTrailer P a = a
+service-in P a = a .1 .1 .1 .1 .0
+
+carried : (r : Record) (P : Field → Type 0) → All P (fieldsOf r) → All (λ f. P (carrier f)) (fieldsOf r)
+carried r P a = carried-in P (fieldsOf r) (λ e. service-in P (subst (λ (q : Record). All P (fieldsOf q)) (paired-header r e) a)) a
 
 -- each field of a record whose fields are accepted is right
 pub kept-field : (r : Record) (d : Direction) (rec : List ℕ) → firstBroken (rulesOf (fieldsOf r) d rec) ≡ Accepted

@@ -3,7 +3,8 @@ use mathlib.Core.Path.{_≡_, refl}
 use borrow.Author.Tests.{eq-eqb, lt-ltb}
 use Prim.Native.Nat.{ℕ, _<_}
 use lib.ListN.{length}
-use Rattle.layout.specs.Table.{code, fieldsOf}
+use Rattle.layout.specs.Records.{code}
+use Rattle.layout.specs.Table.{fieldsOf}
 use Rattle.layout.specs.declared.Record.{Record}
 use Rattle.digits.specs.declared.spelling.Number.the-variants.{Is}
 use Rattle.fields.specs.Values.{takenAs, nth, setNth, numberAt, withNumber}

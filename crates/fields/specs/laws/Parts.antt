@@ -6,14 +6,15 @@ use Prim.Native.Nat.{ℕ, zero, suc, _+_, _-_, _≤_, _<_}
 use native.Mathlib.Nat.{not-suc-le-zero, le-of-suc-le-suc}
 use native.Mathlib.Numerals.{one-add}
 use native.Mathlib.Omega.{arith}
-use lib.Dec.{T, eqb→eq, lit≤}
+use lib.Dec.{T, leb, leb→le, eqb→eq}
 use lib.ListN.{length, getD, drop, length-append}
 use lib.Seq.{getD-drop, take-at, drop-at, ext-getD}
 use Rattle.digits.specs.Digits.{place}
 use Rattle.digits.specs.laws.Strings.{part-getD}
 use Rattle.digits.specs.laws.Numerals.{length-numeral}
 use Rattle.layout.specs.inner.Lent.{spanOf}
-use Rattle.layout.specs.Table.{Field, part, fieldsOf, recordBytes, tiles, none}
+use Rattle.layout.specs.Field.{Field, part, none}
+use Rattle.layout.specs.Table.{fieldsOf, recordBytes, tiles}
 use Rattle.layout.specs.Kinds.{Held, asNumber, asBytes, asFixed}
 use Rattle.layout.specs.laws.Bytes.{length-places}
 use Rattle.layout.specs.laws.Tiling.{tiled, head, ends, covered, Inside, insides, All, at}
@@ -21,22 +22,14 @@ use Rattle.layout.specs.laws.Columns.{first-is, past-is}
 use Rattle.layout.specs.declared.table.Span.{Span}
 use Rattle.layout.specs.laws.Sound.{width, fills, Sound, sounds}
 use Rattle.layout.specs.declared.Record.{Record}
-use Rattle.layout.specs.declared.Record.the-variants.{FileHeader, BatchHeader, SegmentA, SegmentB, SegmentJ, SegmentJ52, SegmentZ, BatchTrailer, FileTrailer}
+use Rattle.layout.specs.laws.Records.{each}
 use Rattle.fields.specs.Values.{heldAs, rendered, joined, recordOf, mostFields}
 use Rattle.fields.specs.declared.Fields.{Fields}
 
 -- a record's numbers have room
 pub few : (r : Record) → length (fieldsOf r) ≤ mostFields
 unfolding fieldsOf
-few FileHeader = lit≤ tt
-few BatchHeader = lit≤ tt
-few SegmentA = lit≤ tt
-few SegmentB = lit≤ tt
-few SegmentJ = lit≤ tt
-few SegmentJ52 = lit≤ tt
-few SegmentZ = lit≤ tt
-few BatchTrailer = lit≤ tt
-few FileTrailer = lit≤ tt
+few r = leb→le (length (fieldsOf r)) mostFields (each (λ r. leb (length (fieldsOf r)) mostFields) tt r)
 
 pub narrow : (r : Record) {s : Span} → s ≡ spanOf r → s .past ≤ s .first + mostFields
 narrow r e = omega (arith, first-is r e, past-is r e, few r)

@@ -13,7 +13,8 @@ use Rattle.answer.specs.declared.Answer.the-variants.{Accepted}
 use Rattle.digits.specs.Numbers.{numberOf, numeral}
 use Rattle.digits.specs.laws.Numerals.{given as digits-of, length-numeral, printed-parsed, parsed-printed, wide-not-parsed}
 use Rattle.digits.specs.declared.spelling.Number.the-variants.{Is}
-use Rattle.layout.specs.Table.{Field, part, fieldsOf, recordBytes, none}
+use Rattle.layout.specs.Field.{Field, part, none}
+use Rattle.layout.specs.Table.{fieldsOf, recordBytes}
 use Rattle.layout.specs.Kinds.{Held, asNumber, asBytes, asFixed}
 use Rattle.layout.specs.Record.{rulesOf, firstRules, recordRules}
 use Rattle.layout.specs.declared.Direction.{Direction}

@@ -1,61 +1,49 @@
 -- The record that spoiled fields make is refused, and so is every record with such bytes and with one such number: whatever is set over the other
 -- numbers. Assumes nothing.
 use Rattle.fields.specs.laws.Wide.{carrier}
-use mathlib.Core.Path.{_≡_, refl, sym, ap, _∙_}
-use mathlib.Core.Bool.{true}
-use mathlib.Core.List.{List}
+use mathlib.Core.Path.{_≡_, refl, sym, ap, subst, _∙_}
+use mathlib.Core.Bool.{Bool, true, false, cond, _||_}
+use mathlib.Core.List.{List, [], _∷_}
 use Prim.Native.Nat.{ℕ, zero, suc, _-_, _^_, _≤_, _<_}
 use native.Mathlib.Omega.{arith}
-use lib.Dec.{lit≤}
+use native.Mathlib.Nat.{not-suc-le-zero, le-of-suc-le-suc}
+use borrow.Author.Tests.{ltb-true}
+use lib.Dec.{T, ltb, eqb, eqb→eq, lit≤}
 use lib.ListN.{length, getD, drop, replicate, getD-replicate}
 use Rattle.answer.specs.Rules.{firstBroken, AllKept}
 use Rattle.answer.specs.laws.Order.{never, never-refused, accepted-kept, front-accepted}
 use Rattle.answer.specs.declared.Answer.the-variants.{Accepted}
 use Rattle.digits.specs.laws.Strings.{part-getD}
-use Rattle.layout.specs.Table.{Field, part, fieldsOf, recordBytes, none}
-use Rattle.layout.specs.Kinds.{asNumber, asBytes}
+use Rattle.layout.specs.Field.{Field, part, none}
+use Rattle.layout.specs.Table.{fieldsOf, recordBytes}
+use Rattle.layout.specs.Kinds.{Held, asNumber, asBytes, asFixed}
 use Rattle.layout.specs.Record.{printable, allPrintable, firstRules, rulesOf, recordRules, fieldRules}
 use Rattle.layout.specs.laws.Bytes.{and-left, and-right, printable-turn}
 use Rattle.layout.specs.laws.Sound.{width}
 use Rattle.layout.specs.laws.Tiling.{Inside, insides, at}
 use Rattle.layout.specs.declared.Direction.{Direction}
 use Rattle.layout.specs.declared.Record.{Record}
-use Rattle.layout.specs.declared.Record.the-variants.{FileHeader, BatchHeader, SegmentA, SegmentB, SegmentJ, SegmentJ52, SegmentZ, BatchTrailer, FileTrailer}
+use Rattle.layout.specs.declared.Record.the-variants.{FileTrailer}
+use Rattle.layout.specs.Records.{code}
+use Rattle.layout.specs.laws.Records.{each, same-code}
 use Rattle.answer.specs.Sums.{largest}
-use Rattle.fields.specs.Values.{heldAs, recordOf, nth, mostFields, spoiled}
-use Rattle.fields.specs.laws.Parts.{record-length, holds, part-width}
+use Rattle.fields.specs.Values.{heldAs, recordOf, nth, spoiled}
+use Rattle.fields.specs.laws.Parts.{record-length, holds}
 use Rattle.fields.specs.laws.Kept.{back-accepted, rules-at}
 use Rattle.fields.specs.laws.TooWide.{too-wide}
 use Rattle.fields.specs.declared.Fields.{Fields}
 
--- a field of each record that the writer does not fill: bytes, if it has such a field
-abbrev pub ruinedAt : Record → ℕ
-ruinedAt FileHeader = 5
-ruinedAt BatchHeader = 9
-ruinedAt SegmentA = 10
-ruinedAt SegmentB = 5
-ruinedAt SegmentJ = 7
-ruinedAt SegmentJ52 = 9
-ruinedAt SegmentZ = 5
-ruinedAt BatchTrailer = 9
-ruinedAt FileTrailer = 6
+-- no byte is printable, and the number behind those that the writer fills is too wide
+abbrev pub ruinedAt : ℕ
+ruinedAt = 6
 
--- no byte is printable, and that field's number is too wide
-pub record Ruined (r : Record) (v : Fields) : Type 0 where
+pub record Ruined (v : Fields) : Type 0 where
   pub text : v .text ≡ replicate recordBytes 0
-  pub number : nth (ruinedAt r) v ≡ largest
+  pub number : nth ruinedAt v ≡ largest
 
 -- spoiled fields are so
-pub spoiled-ruined : (r : Record) → Ruined r (spoiled r)
-spoiled-ruined FileHeader = record { text = refl; number = refl }
-spoiled-ruined BatchHeader = record { text = refl; number = refl }
-spoiled-ruined SegmentA = record { text = refl; number = refl }
-spoiled-ruined SegmentB = record { text = refl; number = refl }
-spoiled-ruined SegmentJ = record { text = refl; number = refl }
-spoiled-ruined SegmentJ52 = record { text = refl; number = refl }
-spoiled-ruined SegmentZ = record { text = refl; number = refl }
-spoiled-ruined BatchTrailer = record { text = refl; number = refl }
-spoiled-ruined FileTrailer = record { text = refl; number = refl }
+pub spoiled-ruined : (r : Record) → Ruined (spoiled r)
+spoiled-ruined r = record { text = refl; number = refl }
 
 -- each of printable bytes is
 module _ (bs : List ℕ) (e : allPrintable bs ≡ true) where
@@ -99,19 +87,55 @@ module _ (r : Record) (d : Direction) (v : Fields) (text : v .text ≡ replicate
       let kept = front-accepted _ _ (back-accepted (rulesOf _ d rec) _ (rw (rules-at (fieldsOf r) d rec j h) at e)) in
       never-refused (sym kept ∙ ap (λ (f : Field). firstBroken (fieldRules f d rec)) (sym own) ∙ too-wide r d v full j h a l)
 
--- such a record breaks a rule
-pub ruined : {A : Type 0} (r : Record) (d : Direction) (v : Fields) → Ruined r v
-    → allPrintable (recordOf r v) ≡ true → firstBroken (rulesOf (fieldsOf r) d (recordOf r v)) ≡ Accepted → A
+-- ---- a field of bytes: every record has one but the file trailer, which has a number there
+
+abbrev isBytes : Held → Bool
+isBytes asNumber = false
+isBytes asBytes = true
+isBytes (asFixed content) = false
+
+is-bytes : (h : Held) → isBytes h ≡ true → h ≡ asBytes
+is-bytes asNumber e = never e
+is-bytes asBytes e = refl
+is-bytes (asFixed content) e = never e
+
+-- the index of the first
+abbrev bytesAt : List Field → ℕ
+bytesAt [] = 0
+bytesAt (f ∷ fs) = cond (isBytes (heldAs f)) 0 (suc (bytesAt fs))
+
+bytes-there : (fs : List Field) → bytesAt fs < length fs → heldAs (getD fs (bytesAt fs) none) ≡ asBytes
+bytes-there [] h = absurd (not-suc-le-zero h)
+bytes-there (f ∷ fs) h = go (isBytes (heldAs f)) refl h (bytes-there fs)
+  where
+    go : (b : Bool) → isBytes (heldAs f) ≡ b → cond b 0 (suc (bytesAt fs)) < length (f ∷ fs)
+        → (bytesAt fs < length fs → heldAs (getD fs (bytesAt fs) none) ≡ asBytes) → heldAs (getD (f ∷ fs) (cond b 0 (suc (bytesAt fs))) none) ≡ asBytes
+    go true e h later = is-bytes (heldAs f) e
+    go false e h later = later (le-of-suc-le-suc h)
+
+abbrev hasBytes : Record → Bool
+hasBytes r = ltb (bytesAt (fieldsOf r)) (length (fieldsOf r))
+
+without : (b : Bool) {n k : ℕ} → T (b || eqb n k) → b ≡ false → n ≡ k
+without true t e = never (sym e)
+without false {n} {k} t e = eqb→eq n k t
+
+the-trailer : (r : Record) → hasBytes r ≡ false → r ≡ FileTrailer
 unfolding fieldsOf
-ruined FileHeader d v x p e = no-bytes FileHeader d v (x .text) 5 (lit≤ tt) refl p
-ruined BatchHeader d v x p e = no-bytes BatchHeader d v (x .text) 9 (lit≤ tt) refl p
-ruined SegmentA d v x p e = no-bytes SegmentA d v (x .text) 10 (lit≤ tt) refl p
-ruined SegmentB d v x p e = no-bytes SegmentB d v (x .text) 5 (lit≤ tt) refl p
-ruined SegmentJ d v x p e = no-bytes SegmentJ d v (x .text) 7 (lit≤ tt) refl p
-ruined SegmentJ52 d v x p e = no-bytes SegmentJ52 d v (x .text) 9 (lit≤ tt) refl p
-ruined SegmentZ d v x p e = no-bytes SegmentZ d v (x .text) 5 (lit≤ tt) refl p
-ruined BatchTrailer d v x p e = no-bytes BatchTrailer d v (x .text) 9 (lit≤ tt) refl p
-ruined FileTrailer d v x p e = no-number FileTrailer d v (x .text) 6 (lit≤ tt) refl refl (rw (x .number) (lit≤ tt)) e
+the-trailer r e = same-code r FileTrailer (without (hasBytes r) (each (λ r. hasBytes r || eqb (code r) (code FileTrailer)) tt r) e)
+
+in-trailer : {A : Type 0} (d : Direction) (v : Fields) → Ruined v → firstBroken (rulesOf (fieldsOf FileTrailer) d (recordOf FileTrailer v)) ≡ Accepted → A
+unfolding fieldsOf
+in-trailer d v x e = no-number FileTrailer d v (x .text) ruinedAt (lit≤ tt) refl refl (rw (x .number) (lit≤ tt)) e
+
+-- such a record breaks a rule
+pub ruined : {A : Type 0} (r : Record) (d : Direction) (v : Fields) → Ruined v
+    → allPrintable (recordOf r v) ≡ true → firstBroken (rulesOf (fieldsOf r) d (recordOf r v)) ≡ Accepted → A
+ruined {A} r d v x p e = go (hasBytes r) refl
+  where
+    go : (b : Bool) → hasBytes r ≡ b → A
+    go true q = let h = ltb-true (bytesAt (fieldsOf r)) (length (fieldsOf r)) q in no-bytes r d v (x .text) (bytesAt (fieldsOf r)) h (bytes-there (fieldsOf r) h) p
+    go false q = in-trailer d v x (subst (λ (q : Record). firstBroken (rulesOf (fieldsOf q) d (recordOf q v)) ≡ Accepted) (the-trailer r q) e)
 
 -- no record that spoiled fields make is accepted
 pub spoiled-refused : {A : Type 0} (r : Record) (d : Direction) → firstBroken (recordRules r d (recordOf r (spoiled r))) ≡ Accepted → A

@@ -10,7 +10,8 @@ use Rattle.answer.specs.declared.Answer.the-variants.{Accepted}
 use Rattle.digits.specs.Numbers.{numberOf}
 use Rattle.digits.specs.laws.Numerals.{wide-not-parsed}
 use Rattle.digits.specs.declared.spelling.Number.the-variants.{Not}
-use Rattle.layout.specs.Table.{Field, part, fieldsOf, recordBytes, none}
+use Rattle.layout.specs.Field.{Field, part, none}
+use Rattle.layout.specs.Table.{fieldsOf, recordBytes}
 use Rattle.layout.specs.Kinds.{asNumber}
 use Rattle.layout.specs.Record.{fieldRules, rulesOf, firstRules, recordRules}
 use Rattle.layout.specs.laws.Sound.{width, sound-at}

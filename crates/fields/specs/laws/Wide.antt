@@ -1,19 +1,21 @@
 -- How a number is refused that has more digits than its field. Assumes nothing.
+use mathlib.Core.Bool.{Bool, true, false, cond}
 use Prim.Native.Nat.{ℕ}
-use Rattle.layout.specs.Table.{Kind, N, Id, T, F, D, Time, K, O, Zeros, Exact, OneOf, Service, Form, Barcode, RecordType, Segment, Field, serviceField}
+use Rattle.layout.specs.Field.{Kind, N, Id, T, F, D, Time, K, O, Zeros, Exact, OneOf, Service, Form, Barcode, RecordType, Segment, Field}
+use Rattle.layout.specs.Table.{serviceField}
 
--- the refusal's number, and the field that carries the rule
+-- the refusal's number, and whether the rule is the pair's, which the service carries
 pub record Wide : Type 0 where
   pub number : ℕ
-  pub by : Field → Field
+  pub paired : Bool
 
 -- the field's own rule
 abbrev pub ownRule : ℕ → Wide
-ownRule number = record { number = number; by = λ f. f }
+ownRule number = record { number = number; paired = false }
 
--- service or form: the pair's rule, which the service carries
+-- service or form
 abbrev pub pairsRule : Wide
-pairsRule = record { number = 14; by = λ f. serviceField }
+pairsRule = record { number = 14; paired = true }
 
 -- 0 stands for the kinds that are not held as numbers
 abbrev pub wide : Kind → Wide
@@ -39,7 +41,7 @@ wideNumber k = wide k .number
 
 -- the field that carries a field's rule: every field its own, but a form, whose rule is the service's
 abbrev pub carrier : Field → Field
-carrier f = wide (f .kind) .by f
+carrier f = cond (wide (f .kind) .paired) serviceField f
 
 abbrev pub widePlace : Field → ℕ
 widePlace f = carrier f .from

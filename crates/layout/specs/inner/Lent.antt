@@ -1,13 +1,15 @@
 -- The table as the code holds and lends it: columns of numbers, kinds by number, and fixed content. Assumes nothing.
 use mathlib.Core.Path.{_≡_}
-use mathlib.Core.Bool.{Bool, cond, _&&_}
+use mathlib.Core.Bool.{Bool, true, cond, _&&_}
 use mathlib.Core.List.{List, [], _∷_, map}
 use Prim.Native.Nat.{ℕ, _+_, _-_}
-use lib.Dec.{leb, ltb}
+use lib.Dec.{leb, ltb, eqb}
 use lib.ListN.{length, getD, take}
 use Rattle.digits.specs.Digits.{digitByte}
 use Rattle.digits.specs.laws.Strings.{tab}
-use Rattle.layout.specs.Table.{Kind, N, Id, T, F, D, Time, K, O, Zeros, Service, Form, Barcode, RecordType, Segment, Field, fieldsOf, zeroOneTwo, zeroNine, oneTwo, exactC, exact09, exact52, code, records, fieldsOfEach, all}
+use Rattle.layout.specs.Field.{Kind, N, Id, T, F, D, Time, K, O, Zeros, Exact, OneOf, Service, Form, Barcode, RecordType, Segment, Field}
+use Rattle.layout.specs.Table.{fieldsOf, zeroOneTwo, zeroNine, oneTwo, exactC, exact09, exact52, fieldsOfEach, all}
+use Rattle.layout.specs.Records.{code, records}
 use Rattle.layout.specs.Kinds.{Held, asNumber, asBytes, asFixed, means, blank}
 use Rattle.layout.specs.declared.fixed.Content.{Content}
 use Rattle.layout.specs.declared.fixed.Content.the-variants.{Run, LetterC, Code09, Code52}
@@ -60,6 +62,25 @@ mark? n = leb firstMark n && leb n lastMark
 
 abbrev pub kindOf : ℕ → Kind
 kindOf n = cond (mark? n) (cond (ltb n firstLetter) (RecordType n) (Segment n)) (getD kinds n F)
+
+-- a width that a field of a kind may have: exact content has one width, and a domain is of one byte
+abbrev pub mayBe : Kind → ℕ → Bool
+mayBe N w = true
+mayBe Id w = true
+mayBe T w = true
+mayBe F w = true
+mayBe D w = true
+mayBe Time w = true
+mayBe K w = true
+mayBe O w = true
+mayBe Zeros w = true
+mayBe (Exact bs) w = eqb w (length bs)
+mayBe (OneOf domain) w = eqb w 1
+mayBe Service w = true
+mayBe Form w = true
+mayBe Barcode w = true
+mayBe (RecordType b) w = eqb w 1
+mayBe (Segment b) w = eqb w 1
 
 -- ---- fixed content
 

@@ -9,10 +9,9 @@ use native.Mathlib.Omega.{arith}
 use lib.Dec.{T, ltb, eqb, eqb→eq}
 use lib.ListN.{length, getD, List·getD-eq-default}
 use Rattle.digits.specs.laws.Strings.{tab}
-use Rattle.layout.specs.inner.Lent.{kinds, firstLetter, mark?, kindOf, contentOf, fillAs, fillOf}
-use Rattle.layout.specs.Table.{Kind, F, RecordType, Segment}
+use Rattle.layout.specs.inner.Lent.{kinds, firstLetter, mark?, kindOf, contentOf, fillAs, fillOf, mayBe}
+use Rattle.layout.specs.Field.{Kind, F, RecordType, Segment}
 use Rattle.layout.specs.Kinds.{asNumber, asBytes, asFixed, means, run, text}
-use Rattle.layout.specs.inner.Steps.{mayBe}
 use Rattle.layout.specs.declared.fixed.Content.{Content}
 use Rattle.layout.specs.declared.fixed.Content.the-variants.{Run, LetterC, Code09, Code52}
 use Rattle.layout.specs.declared.kinds.Fill.{Fill}

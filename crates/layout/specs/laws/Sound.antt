@@ -8,12 +8,13 @@ use lib.ListN.{length, getD}
 use Rattle.digits.specs.Digits.{leading, allDigits}
 use Rattle.digits.specs.Numbers.{mostDigits}
 use Rattle.digits.specs.laws.Tests.{both}
-use Rattle.layout.specs.Table.{Kind, N, Id, T as Text, F, D, Time, K, O, Zeros, Exact, OneOf, Service, Form, Barcode, RecordType, Segment, Field, serviceField, formField, fieldsOf, none}
+use Rattle.layout.specs.Field.{Kind, N, Id, T as Text, F, D, Time, K, O, Zeros, Exact, OneOf, Service, Form, Barcode, RecordType, Segment, Field, none}
+use Rattle.layout.specs.Table.{serviceField, formField, fieldsOf}
 use Rattle.layout.specs.Kinds.{Held, asNumber, asBytes, asFixed, means}
-use Rattle.layout.specs.inner.Steps.{mayBe}
+use Rattle.layout.specs.inner.Lent.{mayBe}
 use Rattle.layout.specs.laws.Tiling.{All, at}
 use Rattle.layout.specs.declared.Record.{Record}
-use Rattle.layout.specs.declared.Record.the-variants.{FileHeader, BatchHeader, SegmentA, SegmentB, SegmentJ, SegmentJ52, SegmentZ, BatchTrailer, FileTrailer}
+use Rattle.layout.specs.laws.Records.{each}
 
 abbrev pub width : Field → ℕ
 width f = f .to - (f .from - 1)
@@ -56,15 +57,7 @@ allSound (f ∷ fs) = sound f && allSound fs
 
 all-sound : (r : Record) → T (allSound (fieldsOf r))
 unfolding allSound fieldsOf leading
-all-sound FileHeader = tt
-all-sound BatchHeader = tt
-all-sound SegmentA = tt
-all-sound SegmentB = tt
-all-sound SegmentJ = tt
-all-sound SegmentJ52 = tt
-all-sound SegmentZ = tt
-all-sound BatchTrailer = tt
-all-sound FileTrailer = tt
+all-sound r = each (λ r. allSound (fieldsOf r)) tt r
 
 -- ---- at each field
 

@@ -10,9 +10,10 @@ use native.Mathlib.Omega.{arith}
 use lib.Dec.{T, eqb, leb, eqb→eq, leb→le}
 use lib.ListN.{length, getD}
 use Rattle.digits.specs.laws.Tests.{both}
-use Rattle.layout.specs.Table.{Field, fieldsOf, recordBytes, tiles, none}
+use Rattle.layout.specs.Field.{Field, none}
+use Rattle.layout.specs.Table.{fieldsOf, recordBytes, tiles}
 use Rattle.layout.specs.declared.Record.{Record}
-use Rattle.layout.specs.declared.Record.the-variants.{FileHeader, BatchHeader, SegmentA, SegmentB, SegmentJ, SegmentJ52, SegmentZ, BatchTrailer, FileTrailer}
+use Rattle.layout.specs.laws.Records.{each}
 
 -- one field of the list holds the place q, and no other does
 pub record HeldOnce (fs : List Field) (q : ℕ) : Type 0 where
@@ -23,15 +24,7 @@ pub record HeldOnce (fs : List Field) (q : ℕ) : Type 0 where
 
 pub tiled : (r : Record) → T (tiles 1 (fieldsOf r))
 unfolding tiles fieldsOf
-tiled FileHeader = tt
-tiled BatchHeader = tt
-tiled SegmentA = tt
-tiled SegmentB = tt
-tiled SegmentJ = tt
-tiled SegmentJ52 = tt
-tiled SegmentZ = tt
-tiled BatchTrailer = tt
-tiled FileTrailer = tt
+tiled r = each (λ r. tiles 1 (fieldsOf r)) tt r
 
 -- the test of a list that begins with g, taken apart
 pub record Head (p : ℕ) (g : Field) (gs : List Field) : Type 0 where

@@ -4,11 +4,11 @@ use mathlib.Core.Logic.{_↔_}
 use mathlib.Core.List.{List}
 use Prim.Native.Nat.{ℕ}
 use Rattle.checker.specs.Machine.{start}
-use Rattle.checker.specs.File.{linesOf, checkFile}
-use Rattle.checker.specs.laws.Runs.{lines-joined, lines-are}
-use Rattle.checker.specs.laws.Verdict.{Passed, through-lines, accepted-file}
+use Rattle.files.specs.File.{linesOf, checkFile}
+use Rattle.files.specs.laws.Runs.{lines-joined, lines-are}
+use Rattle.files.specs.laws.Verdict.{Passed, through-lines, accepted-file}
 use Rattle.checker.specs.declared.totals.Totals.{Totals}
-use Rattle.checker.specs.declared.file.Outcome.the-variants.{Accepted}
+use Rattle.files.specs.declared.Outcome.the-variants.{Accepted}
 use Rattle.promises.specs.Grammar.{RightFile, Meets}
 use Rattle.promises.specs.laws.Build.{built}
 use Rattle.promises.specs.laws.Parse.{parsed}

@@ -13,10 +13,10 @@ use Rattle.layout.specs.Pairs.{batchOf}
 use Rattle.layout.specs.Record.{rulesOf, clean}
 use Rattle.layout.specs.Table.{fieldsOf}
 use Rattle.checker.specs.Totals.{totals, add}
-use Rattle.checker.specs.Line.{lineFrom, within, boletoRules, detailRules, rulesAs, typeRules, lineRules, rulesOfLine}
+use Rattle.checker.specs.Line.{lineFrom, within, boletoRules, rulesOfType, rulesAs, typeRules, lineRules, rulesOfLine}
 use Rattle.checker.specs.Machine.{sound, stepOf}
-use Rattle.checker.specs.File.{cut, steps, endOf, finish, checkFile}
-use Rattle.checker.specs.declared.file.Outcome.the-variants.{Accepted}
+use Rattle.files.specs.File.{cut, steps, endOf, finish, checkFile}
+use Rattle.files.specs.declared.Outcome.the-variants.{Accepted}
 use Rattle.promises.specs.Examples.{bytes}
 
 abbrev pub creditFile : List ℕ
@@ -29,7 +29,7 @@ creditFile =
     ++ lineFrom (bytes "08599999         000001000006000000                                                                                                                                                                                                             ")
 
 pub credit-file : checkFile creditFile ≡ Accepted (totals 1 6 1 10000)
-unfolding firstBroken leading weighed numberOf exists dateFits timeFits same batchOf rulesOf clean fieldsOf cut steps endOf finish within detailRules rulesAs typeRules lineRules rulesOfLine sound stepOf add
+unfolding firstBroken leading weighed numberOf exists dateFits timeFits same batchOf rulesOf clean fieldsOf cut steps endOf finish within rulesOfType rulesAs typeRules lineRules rulesOfLine sound stepOf add
 credit-file = refl
 
 abbrev pub returnFile : List ℕ
@@ -52,5 +52,5 @@ returnFile =
     ++ lineFrom (bytes "08599999         000002000016000000                                                                                                                                                                                                             ")
 
 pub return-file : checkFile returnFile ≡ Accepted (totals 2 16 4 476150)
-unfolding firstBroken leading weighed counts lift checkDigit numberOf exists dateFits timeFits daysOfYears dayNumber dueDays folded factorOf same batchOf rulesOf clean fieldsOf cut steps endOf finish within boletoRules detailRules rulesAs typeRules lineRules rulesOfLine sound stepOf add
+unfolding firstBroken leading weighed counts lift checkDigit numberOf exists dateFits timeFits daysOfYears dayNumber dueDays folded factorOf same batchOf rulesOf clean fieldsOf cut steps endOf finish within boletoRules rulesOfType rulesAs typeRules lineRules rulesOfLine sound stepOf add
 return-file = refl

@@ -2,27 +2,32 @@
 use mathlib.Core.Path.{_≡_, ap}
 use mathlib.Core.Bool.{true}
 use mathlib.Core.List.{List, [], _∷_}
-use Prim.Native.Nat.{ℕ, suc, _≤_, _<_}
+use Prim.Native.Nat.{ℕ, suc, _+_, _-_, _≤_, _<_}
+use native.Mathlib.Decide.{decLt}
 use native.Mathlib.Omega.{arith}
+use borrow.Author.Tests.{lt-ltb, le-ltb}
 use lib.ListN.{length}
 use Rattle.answer.specs.Limits.{fileCents}
 use Rattle.answer.specs.laws.Order.{never}
-use Rattle.layout.specs.declared.Direction.{Direction}
 use Rattle.layout.specs.declared.Record.{Record}
 use Rattle.layout.specs.declared.pairs.Batch.{Batch}
-use Rattle.checker.specs.Order.{after, ended}
+use Rattle.checker.specs.Order.{payment, ended}
+use Rattle.layout.specs.Records.{after}
 use Rattle.checker.specs.Totals.{add}
 use Rattle.checker.specs.Line.{recordIn}
+use Rattle.checker.specs.Machine.{next}
 use Rattle.checker.specs.laws.Sums.{next-counts}
-use Rattle.checker.specs.laws.Edges.{by-A, by-J, by-B, by-J52, Follows, heads, first-batch, first-payment, goes-on, adds-z, pays-behind, pays-behind-z, closes-paid, closes-behind-z, next-batch, ends}
+use Rattle.checker.specs.laws.Edges.{Next, first-payment, goes-on, pays-behind, pays-behind-z, Follows, heads, first-batch, pays, adds-z, closes-paid, closes-behind-z, next-batch, ends, stands-moves}
+use Rattle.checker.specs.laws.Payments.{Stands, phaseBehind, row, stands-in}
 use Rattle.checker.specs.laws.Meaning.{next-phase}
 use Rattle.checker.specs.laws.Kept.{KeptAt}
 use Rattle.checker.specs.laws.Reached.{reached-kept}
-use Rattle.checker.specs.declared.order.Phase.{Phase}
-use Rattle.checker.specs.declared.order.Phase.the-variants.{Start, Headed, Opened, Begun, Paid, BehindZ, Closed, Ended}
+use Rattle.layout.specs.declared.shapes.Phase.{Phase}
+use Rattle.layout.specs.declared.shapes.Phase.the-variants.{Start, Headed, Opened, Within, Paid, BehindZ, Closed, Ended}
 use Rattle.checker.specs.declared.totals.Totals.{Totals}
 use Rattle.checker.specs.declared.Checker.{Checker}
-use Rattle.writer.specs.Refusals.{centsSoFar}
+use Rattle.writer.specs.Refusals.{centsSoFar, leastDetails, trailers}
+use Rattle.writer.specs.laws.KindGiven.{least-named}
 use Rattle.writer.specs.laws.Fits.{reserve}
 use Rattle.promises.specs.laws.Behind.{Ends, goes, at-last}
 
@@ -32,7 +37,7 @@ ended-cents : (p : Phase) {s : Checker} → ended p ≡ true → KeptAt p s → 
 ended-cents Start e k = never e
 ended-cents Headed e k = never e
 ended-cents Opened e k = never e
-ended-cents Begun e k = never e
+ended-cents (Within n) e k = never e
 ended-cents Paid e k = never e
 ended-cents BehindZ e k = never e
 ended-cents Closed e k = never e
@@ -47,36 +52,47 @@ sum-below (l ∷ ls) {s} e =
 
 -- ---- the lines that close the file follow
 
-none-left : (p : Phase) → ended p ≡ true → reserve p ≤ 0
-none-left Start e = never e
-none-left Headed e = never e
-none-left Opened e = never e
-none-left Begun e = never e
-none-left Paid e = never e
-none-left BehindZ e = never e
-none-left Closed e = never e
-none-left Ended e = omega arith
+none-left : (p : Phase) (b : Batch) → ended p ≡ true → reserve p b ≤ 0
+none-left Start b e = never e
+none-left Headed b e = never e
+none-left Opened b e = never e
+none-left (Within n) b e = never e
+none-left Paid b e = never e
+none-left BehindZ b e = never e
+none-left Closed b e = never e
+none-left Ended b e = omega arith
 
-one-less : {d : Direction} {b : Batch} {p : Phase} {r : Record} → Follows d b p r → reserve p ≤ suc (reserve (after r))
-one-less heads = omega arith
-one-less first-batch = omega arith
-one-less (first-payment by-A) = omega arith
-one-less (first-payment by-J) = omega arith
-one-less (goes-on by-B) = omega arith
-one-less (goes-on by-J52) = omega arith
-one-less (adds-z e) = omega arith
-one-less (pays-behind by-A) = omega arith
-one-less (pays-behind by-J) = omega arith
-one-less (pays-behind-z by-A) = omega arith
-one-less (pays-behind-z by-J) = omega arith
-one-less closes-paid = omega arith
-one-less closes-behind-z = omega arith
-one-less next-batch = omega arith
-one-less ends = omega arith
+-- the records of a payment from a position on
+from-there : {p : Phase} {n : ℕ} (b : Batch) → Next p n → reserve p b ≤ (leastDetails b - n) + trailers
+from-there b first-payment = omega arith
+from-there b goes-on = omega arith
+from-there b pays-behind = omega arith
+from-there b pays-behind-z = omega arith
 
-pub enough-lines : (ls : List (List ℕ)) {s : Checker} → Ends s ls → reserve (s .phase) ≤ length ls
-enough-lines [] {s} e = none-left (s .phase) (at-last e)
+one-fewer : {b : Batch} {n : ℕ} {r : Record} → Stands b n r → (leastDetails b - n) + trailers ≤ suc (reserve (phaseBehind n b) b)
+one-fewer {b} {n} g = go (decLt (suc n) (length (payment b)))
+  where
+    least : length (payment b) ≡ leastDetails b
+    least = least-named b (omega (arith, stands-in g))
+
+    go : Dec (suc n < length (payment b)) → (leastDetails b - n) + trailers ≤ suc (reserve (phaseBehind n b) b)
+    go (yes h) = rw (lt-ltb (suc n) (length (payment b)) h) (omega arith)
+    go (no h) = rw (le-ltb (suc n) (length (payment b)) (omega arith)) (omega (arith, least))
+
+one-less : {p : Phase} {r : Record} (s : Checker) (rec : List ℕ) → Follows (s .dir) (s .batch) p r
+    → reserve p (s .batch) ≤ suc (reserve (after r) (next r s rec .batch))
+one-less s rec heads = omega arith
+one-less s rec first-batch = omega arith
+one-less s rec (pays x g) = rw (stands-moves s rec g .batch, row g .phase) (omega (arith, from-there (s .batch) x, one-fewer g))
+one-less s rec (adds-z e) = omega arith
+one-less s rec closes-paid = omega arith
+one-less s rec closes-behind-z = omega arith
+one-less s rec next-batch = omega arith
+one-less s rec ends = omega arith
+
+pub enough-lines : (ls : List (List ℕ)) {s : Checker} → Ends s ls → reserve (s .phase) (s .batch) ≤ length ls
+enough-lines [] {s} e = none-left (s .phase) (s .batch) (at-last e)
 enough-lines (l ∷ ls) {s} e =
     let (r, g) = goes e in
-    let later : reserve (after r) ≤ length ls = rw (next-phase r s (recordIn l)) at (enough-lines ls (g .rest)) in
-    omega (arith, one-less (g .follows))
+    let later : reserve (after r) (next r s (recordIn l) .batch) ≤ length ls = rw (next-phase r s (recordIn l)) at (enough-lines ls (g .rest)) in
+    omega (arith, one-less s (recordIn l) (g .follows))

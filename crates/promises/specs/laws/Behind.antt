@@ -7,7 +7,8 @@ use Prim.Native.Nat.{ℕ}
 use native.Mathlib.Omega.{arith}
 use lib.ListN.{getD}
 use Rattle.digits.specs.Digits.{place}
-use Rattle.layout.specs.Table.{typeOf, typePlace}
+use Rattle.layout.specs.Records.{typeOf}
+use Rattle.layout.specs.Table.{typePlace}
 use Rattle.layout.specs.declared.Direction.{Direction}
 use Rattle.layout.specs.declared.Record.{Record}
 use Rattle.layout.specs.declared.Record.the-variants.{FileHeader}
@@ -17,7 +18,7 @@ use Rattle.checker.specs.Line.{recordIn, lineIs}
 use Rattle.checker.specs.Machine.{start, directionOf, next, stepOf}
 use Rattle.checker.specs.Calls.{Reached, after-line, Through, here, further, left}
 use Rattle.checker.specs.declared.order.Reading.the-variants.{Line}
-use Rattle.checker.specs.declared.order.Phase.the-variants.{Start}
+use Rattle.layout.specs.declared.shapes.Phase.the-variants.{Start}
 use Rattle.checker.specs.declared.Checker.{Checker}
 use Rattle.checker.specs.laws.Edges.{Follows, heads, follows-by, type-read}
 use Rattle.promises.specs.laws.Facts.{Fits, taken}

@@ -1,5 +1,5 @@
 -- A file of the grammar passes through the checker, line by line, with its totals. Assumes nothing.
-use mathlib.Core.Path.{_≡_, refl, sym, ap, _∙_}
+use mathlib.Core.Path.{_≡_, refl, ap, _∙_}
 use mathlib.Core.Bool.{true}
 use mathlib.Core.List.{List, [], _∷_}
 use Prim.Native.Nat.{ℕ, _+_, _≤_, _<_}
@@ -10,25 +10,25 @@ use Rattle.answer.specs.Limits.{fileCents}
 use Rattle.answer.specs.Rules.{AllKept}
 use Rattle.digits.specs.Numbers.{value}
 use Rattle.layout.specs.Pairs.{known}
-use Rattle.layout.specs.Table.{part, fieldsOf, bankField}
+use Rattle.layout.specs.Field.{part}
+use Rattle.layout.specs.Table.{fieldsOf, bankField}
 use Rattle.layout.specs.Record.{rulesOf}
 use Rattle.layout.specs.declared.Direction.{Direction}
 use Rattle.layout.specs.declared.Record.{Record}
 use Rattle.layout.specs.declared.Record.the-variants.{FileHeader, BatchHeader, BatchTrailer, FileTrailer}
 use Rattle.layout.specs.declared.pairs.Batch.{Batch}
 use Rattle.layout.specs.declared.pairs.Batch.the-variants.{Unknown}
-use Rattle.checker.specs.Order.{after}
+use Rattle.layout.specs.Records.{after}
 use Rattle.checker.specs.Totals.{totals, none, add, batchesOf, paymentsOf, centsOf}
-use Rattle.checker.specs.laws.Bounds.{counts-are}
 use Rattle.checker.specs.Line.{recordIn, mostBatches, mostPayments}
 use Rattle.checker.specs.Machine.{state, start, next}
 use Rattle.checker.specs.Calls.{Reached, at-start}
 use Rattle.checker.specs.Calls as calls
 use Rattle.checker.specs.laws.Details.{asked, AllRead, detail-of}
 use Rattle.checker.specs.laws.Asks.{read-right}
-use Rattle.checker.specs.laws.Verdict.{Passed, through-reached}
-use Rattle.checker.specs.declared.order.Phase.{Phase}
-use Rattle.checker.specs.declared.order.Phase.the-variants.{Headed, Paid, BehindZ, Closed}
+use Rattle.files.specs.laws.Verdict.{Passed, through-reached}
+use Rattle.layout.specs.declared.shapes.Phase.{Phase}
+use Rattle.layout.specs.declared.shapes.Phase.the-variants.{Headed, Paid, BehindZ, Closed}
 use Rattle.checker.specs.declared.totals.Totals.{Totals}
 use Rattle.checker.specs.declared.Checker.{Checker}
 use Rattle.checker.specs.laws.Sums.{same-totals, add-none, add-assoc}
@@ -72,7 +72,7 @@ module _ {d : Direction} {b : Batch} {n : ℕ} {x : Totals} where
       let fit : Fits r s l = record { right = w .right; numbers = numbers; limit = i .limits s .0 (omega arith) } in
       let counted = totals (batchesOf r) 1 (paymentsOf r) (centsOf r rec) in
       let moved : next r s rec ≡ state (after r) d b n x (add y counted) =
-      i .moves s rec ∙ ap (λ (c : Totals). state (after r) d b n x (add y c)) (sym (counts-are r rec)) in
+      i .moves s rec in
       let first : ThroughAs s (l ∷ []) (r ∷ []) (state (after r) d b n x (add y counted)) = rw (← moved) (one at f fit) in
       let z = i .opens in
       let rest = details-through (add y counted) t ds (omega arith) (omega arith) (reached-as at first) in

@@ -9,22 +9,23 @@ use lib.ListN.{length, getD, take, drop, set, length-take, length-drop, length-s
 use lib.Seq.{length-take-le, take-at, getD-at, take-take, getD-take, take-set-le, take-set-lt, drop-set-lt, drop-set-add, getD-set-same}
 use Rattle.answer.specs.declared.Refusal.{Refusal}
 use Rattle.digits.specs.Digits.{digitByte, place}
-use Rattle.layout.specs.Table.{typeOf, typePlace, segmentPlace, recordBytes, bankField, batchField, numberField}
+use Rattle.layout.specs.Records.{typeOf}
+use Rattle.layout.specs.Table.{typePlace, segmentPlace, recordBytes, bankField, batchField, numberField}
 use Rattle.layout.specs.declared.Direction.{Direction}
 use Rattle.layout.specs.declared.Record.{Record}
 use Rattle.layout.specs.declared.Record.the-variants.{FileHeader, SegmentJ}
 use Rattle.checker.specs.Line.{lineBytes, recordIn, lineIs, lineFrom}
 use Rattle.checker.specs.Machine.{start}
-use Rattle.checker.specs.File.{linesOf, checkFile}
+use Rattle.files.specs.File.{linesOf, checkFile}
 use Rattle.checker.specs.Calls.{at-start, left}
 use Rattle.checker.specs.laws.Details.{asked, detail-of}
-use Rattle.checker.specs.laws.Runs.{no-lines, next-line, lines-append, lines-joined}
-use Rattle.checker.specs.laws.Verdict.{Passed, accepted-file}
+use Rattle.files.specs.laws.Runs.{no-lines, next-line, lines-append, lines-joined}
+use Rattle.files.specs.laws.Verdict.{Passed, accepted-file}
 use Rattle.checker.specs.declared.order.Reading.the-variants.{Line}
 use Rattle.checker.specs.declared.totals.Totals.{Totals}
 use Rattle.checker.specs.declared.Checker.{Checker}
-use Rattle.checker.specs.declared.file.Outcome.{Outcome}
-use Rattle.checker.specs.declared.file.Outcome.the-variants.{Accepted, Refused}
+use Rattle.files.specs.declared.Outcome.{Outcome}
+use Rattle.files.specs.declared.Outcome.the-variants.{Accepted, Refused}
 use Rattle.promises.specs.Grammar.{RightLine}
 use Rattle.promises.specs.Guarded.{On, In, Guarded, line-end, first-eight, detail, fixed, credit-amount, boleto-values, boleto-amount, batch-trailer, file-trailer, barcode, lineAt, GuardedIn, changed}
 use Rattle.promises.specs.laws.Facts.{either-direction}

@@ -14,7 +14,7 @@ use Rattle.digits.specs.Numbers.{mostDigits, numberOf, value}
 use Rattle.digits.specs.laws.Strings.{part-getD, leading-all}
 use Rattle.digits.specs.laws.Numerals.{number-inj, given}
 use Rattle.digits.specs.declared.spelling.Number.the-variants.{Is}
-use Rattle.layout.specs.Table.{Field, part}
+use Rattle.layout.specs.Field.{Field, part}
 use Rattle.layout.specs.Kinds.{isFixed}
 use Rattle.layout.specs.laws.Bytes.{same-true}
 use Rattle.promises.specs.Guarded.{In}

@@ -12,14 +12,14 @@ use Rattle.layout.specs.declared.Record.{Record}
 use Rattle.layout.specs.declared.Record.the-variants.{FileHeader}
 use Rattle.checker.specs.Line.{lineBytes, recordIn}
 use Rattle.checker.specs.Machine.{start, directionOf}
-use Rattle.checker.specs.File.{linesOf, checkFile}
+use Rattle.files.specs.File.{linesOf, checkFile}
 use Rattle.checker.specs.Calls.{Through, here, further}
 use Rattle.checker.specs.laws.Meaning.{kept-line}
-use Rattle.checker.specs.laws.Runs.{lines-joined}
-use Rattle.checker.specs.laws.Verdict.{accepted-file}
+use Rattle.files.specs.laws.Runs.{lines-joined}
+use Rattle.files.specs.laws.Verdict.{accepted-file}
 use Rattle.checker.specs.declared.totals.Totals.{Totals}
 use Rattle.checker.specs.declared.Checker.{Checker}
-use Rattle.checker.specs.declared.file.Outcome.the-variants.{Accepted, Refused}
+use Rattle.files.specs.declared.Outcome.the-variants.{Accepted, Refused}
 use Rattle.promises.specs.Grammar.{Meets, recordsInFile}
 use Rattle.promises.specs.Guarded.{On, Guarded, EachRead, lineAt, GuardedIn, changed}
 use Rattle.promises.specs.laws.ReadAs.{PassedAs, read-as, as-many}

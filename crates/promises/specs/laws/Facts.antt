@@ -11,7 +11,8 @@ use Rattle.digits.specs.Digits.{place}
 use Rattle.digits.specs.Numbers.{value, mostDigits}
 use Rattle.digits.specs.laws.Strings.{leading-all, spelled-out}
 use Rattle.digits.specs.laws.Numerals.{digits-give}
-use Rattle.layout.specs.Table.{part, fieldsOf, recordBytes, bankField}
+use Rattle.layout.specs.Field.{part}
+use Rattle.layout.specs.Table.{fieldsOf, recordBytes, bankField}
 use Rattle.layout.specs.Record.{rulesOf}
 use Rattle.layout.specs.declared.Direction.{Direction}
 use Rattle.layout.specs.declared.Record.{Record}

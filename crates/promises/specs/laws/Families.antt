@@ -19,17 +19,18 @@ use Rattle.layout.specs.declared.Direction.{Direction}
 use Rattle.layout.specs.declared.Record.{Record}
 use Rattle.fields.specs.Values.{recordOf, readRecord}
 use Rattle.checker.specs.Order.{ended}
-use Rattle.checker.specs.Line.{rulesOfLine}
+use Rattle.checker.specs.Line.{recordIn, rulesOfLine}
 use Rattle.checker.specs.Machine.{lineOf, sound, stepped, answerTo, stepOf}
-use Rattle.checker.specs.File.{linesOf, unless, steps, leaving, run, endOf, outcome as outcomeOf, finish}
+use Rattle.files.specs.File.{linesOf, unless, steps, leaving, run, endOf, outcome as outcomeOf, finish}
 use Rattle.checker.specs.Calls.{Reached, at-start, after-line, Through, here, further}
 use Rattle.checker.specs.laws.Meaning.{line-accepted, refused-leaves as line-leaves}
-use Rattle.checker.specs.laws.Reached.{reached, run-reached, never-guarded}
-use Rattle.checker.specs.laws.Verdict.{Stopped, at-line, at-end, refused-rest, through-line-no}
+use Rattle.checker.specs.laws.Reached.{reached, never-guarded}
+use Rattle.files.specs.laws.Ends.{run-reached}
+use Rattle.files.specs.laws.Verdict.{Stopped, at-line, at-end, refused-rest, through-line-no}
 use Rattle.checker.specs.declared.Checker.{Checker}
 use Rattle.checker.specs.declared.Stepped.{Stepped}
-use Rattle.checker.specs.declared.file.Outcome.{Outcome}
-use Rattle.checker.specs.declared.file.Outcome.the-variants as outcome
+use Rattle.files.specs.declared.Outcome.{Outcome}
+use Rattle.files.specs.declared.Outcome.the-variants as outcome
 use Rattle.writer.specs.Given.{Call, recordsOf}
 use Rattle.writer.specs.Refusals.{held}
 use Rattle.writer.specs.Outcome.{newWriter, answerOf, Wrote}
@@ -93,7 +94,7 @@ module _ {s : Checker} (c : Reached s) where
   line-ends : (l : List ℕ) → Ends s (stepOf s l .state) (λ n. n ≡ lineOf s .0) (stepOf s l .answer)
   line-ends l = rw (never-guarded c l) (go (firstBroken (rulesOfLine s l)) refl)
     where
-      go : (a : Answer) → firstBroken (rulesOfLine s l) ≡ a → Ends s (answerTo a s l .state) (λ n. n ≡ lineOf s .0) (answerTo a s l .answer)
+      go : (a : Answer) → firstBroken (rulesOfLine s l) ≡ a → Ends s (answerTo a s (recordIn l) .state) (λ n. n ≡ lineOf s .0) (answerTo a s (recordIn l) .answer)
       go Accepted e = accepted
       go (Refused r) e = refused (line-rules s l .broken r e .1) refl refl
 
@@ -184,7 +185,7 @@ any-line s l = go (sound s) (firstBroken (rulesOfLine s l)) refl
     guard = stepped s (refusedAs 51 0)
 
     go : (b : Bool) (a : Answer) → firstBroken (rulesOfLine s l) ≡ a
-        → Ends s (cond b (answerTo a s l) guard .state) (NextOrNone s) (cond b (answerTo a s l) guard .answer)
+        → Ends s (cond b (answerTo a s (recordIn l)) guard .state) (NextOrNone s) (cond b (answerTo a s (recordIn l)) guard .answer)
     go true Accepted e = accepted
     go true (Refused r) e = refused (line-rules s l .broken r e .1) (inl refl) refl
     go false a e = refused tt (inr refl) refl

@@ -9,7 +9,9 @@ use lib.Dec.{lit≤}
 use Rattle.digits.specs.Digits.{digitByte, place}
 use Rattle.digits.specs.laws.Strings.{part-getD}
 use Rattle.boleto.specs.Guarded.{all, currency, check}
-use Rattle.layout.specs.Table.{K, O, Zeros, Exact, Field, part, typeOf, barcodeField}
+use Rattle.layout.specs.Field.{K, O, Zeros, Exact, Field, part}
+use Rattle.layout.specs.Records.{typeOf}
+use Rattle.layout.specs.Table.{barcodeField}
 use Rattle.layout.specs.declared.Direction.{Direction}
 use Rattle.layout.specs.declared.Direction.the-variants.{Remittance}
 use Rattle.layout.specs.declared.Record.{Record}

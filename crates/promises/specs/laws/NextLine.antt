@@ -11,24 +11,27 @@ use lib.ListN.{length}
 use Rattle.answer.specs.Rules.{AllKept}
 use Rattle.answer.specs.laws.Order.{never}
 use Rattle.digits.specs.Digits.{digitByte, place, places}
-use Rattle.layout.specs.Table.{typeOf, typePlace, fieldsOf, bankField, creditAmount}
+use Rattle.layout.specs.Records.{typeOf, creditAmount}
+use Rattle.layout.specs.Table.{typePlace, fieldsOf, bankField}
 use Rattle.layout.specs.Kinds.{run, blank, isFixed, oneOf}
 use Rattle.layout.specs.laws.Bytes.{and-left, same-true}
 use Rattle.layout.specs.declared.Direction.{Direction}
 use Rattle.layout.specs.declared.Record.{Record}
 use Rattle.layout.specs.declared.Record.the-variants.{FileHeader, BatchHeader, SegmentA, SegmentB, SegmentZ, BatchTrailer}
 use Rattle.layout.specs.declared.pairs.Batch.{Batch}
+use Rattle.layout.specs.declared.pairs.Batch.the-variants.{Credit, Boleto, Unknown}
 use Rattle.checker.specs.Order.{ended}
-use Rattle.checker.specs.Totals.{add}
+use Rattle.checker.specs.Totals.{add, centSum}
 use Rattle.checker.specs.Line.{recordIn, lineIs}
 use Rattle.checker.specs.Machine.{next}
-use Rattle.checker.specs.declared.order.Phase.{Phase}
-use Rattle.checker.specs.declared.order.Phase.the-variants.{Headed, Begun, BehindZ}
+use Rattle.layout.specs.declared.shapes.Phase.{Phase}
+use Rattle.layout.specs.declared.shapes.Phase.the-variants.{Headed, Within, BehindZ}
 use Rattle.checker.specs.declared.Checker.{Checker}
 use Rattle.promises.specs.Grammar.{RightLine}
 use Rattle.promises.specs.Guarded.{In}
-use Rattle.checker.specs.laws.Edges.{Begins, by-A, by-J, by-B, by-J52, Follows, first-batch, goes-on, adds-z, pays-behind, pays-behind-z, closes-paid, closes-behind-z, begins-detail, begins-moves}
-use Rattle.checker.specs.laws.Details.{AllRead, Open, at-begun, at-paid, at-behind-z, detail-of}
+use Rattle.checker.specs.laws.Edges.{goes-on, pays-behind-z, next-in, Follows, first-batch, pays, adds-z, closes-paid, closes-behind-z, stands-moves}
+use Rattle.checker.specs.laws.Payments.{Stands, phaseBehind, row, stands-in, one-stands}
+use Rattle.checker.specs.laws.Details.{AllRead, Open, at-within, at-paid, at-behind-z, detail-of}
 use Rattle.checker.specs.laws.Asks.{letter-at}
 use Rattle.promises.specs.laws.Facts.{Fits}
 use Rattle.promises.specs.laws.Differ.{Differ, not-worth}
@@ -42,6 +45,7 @@ follows-at {d} {r = r} e h f = subst₂ (λ (x : Batch) (y : Phase). Follows d x
 
 header-next : {d : Direction} {b : Batch} {r : Record} → Follows d b Headed r → r ≡ BatchHeader
 header-next first-batch = refl
+header-next (pays x g) = never (next-in x)
 
 one-bank : (ls : List (List ℕ)) {s s′ : Checker} → s .phase ≡ Headed → s′ .phase ≡ Headed → Ends s ls → Ends s′ ls → s .bank ≡ s′ .bank
 unfolding AllRead
@@ -69,18 +73,27 @@ blank-or-digit bs h k =
     let is : blank ∷ [] ≡ bs = ap (run blank) (sym long) ∙ same-true (run blank (length bs)) bs h in
     never (subst (λ (w : List ℕ). oneOf (digitByte 0 ∷ digitByte 9 ∷ []) w ≡ true) (sym is) k)
 
--- it is neither a first record nor the batch trailer
-not-second : {d d′ e e′ : Direction} {b : Batch} {r r′ : Record} (l : List ℕ) → Follows d b Begun r → Follows d′ b BehindZ r′
-    → place typePlace (recordIn l) ≡ typeOf r → place typePlace (recordIn l) ≡ typeOf r′ → RightLine r e l → RightLine r′ e′ l → ⊥
+-- by its letter, or by that place: no line is right as both
+not-first : (b : Batch) {e e′ : Direction} {r r′ : Record} (l : List ℕ) → Stands b 1 r → Stands b 0 r′ → RightLine r e l → RightLine r′ e′ l → ⊥
 unfolding fieldsOf AllKept
-not-second l (goes-on by-B) (pays-behind-z by-A) t t′ a a′ =
-    omega (arith, letter-at SegmentB _ (recordIn l) (a .fields) refl refl, letter-at SegmentA _ (recordIn l) (a′ .fields) refl refl)
-not-second l (goes-on by-J52) (pays-behind-z by-J) t t′ a a′ = blank-or-digit (places 15 15 (recordIn l)) (right-at a 5 (lit≤ tt) .0) (right-at a′ 5 (lit≤ tt) .0)
-not-second l (goes-on by-B) closes-behind-z t t′ a a′ = omega arith
-not-second l (goes-on by-J52) closes-behind-z t t′ a a′ = omega arith
+not-first Credit {e} {e′} l g h a a′ =
+    let b = subst (λ (x : Record). RightLine x e l) (one-stands g (record { is = refl })) a in
+    let b′ = subst (λ (x : Record). RightLine x e′ l) (one-stands h (record { is = refl })) a′ in
+    omega (arith, letter-at SegmentB _ (recordIn l) (b .fields) refl refl, letter-at SegmentA _ (recordIn l) (b′ .fields) refl refl)
+not-first Boleto {e} {e′} l g h a a′ =
+    let b = subst (λ (x : Record). RightLine x e l) (one-stands g (record { is = refl })) a in
+    let b′ = subst (λ (x : Record). RightLine x e′ l) (one-stands h (record { is = refl })) a′ in
+    blank-or-digit (places 15 15 (recordIn l)) (right-at b 5 (lit≤ tt) .0) (right-at b′ 5 (lit≤ tt) .0)
+not-first Unknown l g h a a′ = omega (arith, stands-in g)
+
+-- it is neither a first record nor the batch trailer
+not-second : {d d′ e e′ : Direction} {b : Batch} {r r′ : Record} (l : List ℕ) → Follows d b (Within 1) r → Follows d′ b BehindZ r′
+    → place typePlace (recordIn l) ≡ typeOf r → place typePlace (recordIn l) ≡ typeOf r′ → RightLine r e l → RightLine r′ e′ l → ⊥
+not-second {b = b} l (pays goes-on g) (pays pays-behind-z h) t t′ a a′ = not-first b l g h a a′
+not-second l (pays goes-on g) closes-behind-z t t′ a a′ = omega (arith, row g .type)
 
 -- no line stands both behind a first record and behind a Z
-begun-or-behind-z : (ls : List (List ℕ)) {s s′ : Checker} {b : Batch} → s .phase ≡ Begun → s′ .phase ≡ BehindZ → s .batch ≡ b → s′ .batch ≡ b
+begun-or-behind-z : (ls : List (List ℕ)) {s s′ : Checker} {b : Batch} → s .phase ≡ Within 1 → s′ .phase ≡ BehindZ → s .batch ≡ b → s′ .batch ≡ b
     → Ends s ls → Ends s′ ls → ⊥
 begun-or-behind-z [] p p′ q q′ e e′ = never (rw p at (at-last e))
 begun-or-behind-z (l ∷ ls) p p′ q q′ e e′ =
@@ -88,23 +101,30 @@ begun-or-behind-z (l ∷ ls) p p′ q q′ e e′ =
     let g′ = goes e′ .1 in
     not-second l (follows-at q p (g .follows)) (follows-at q′ p′ (g′ .follows)) (g .typed) (g′ .typed) (g .fitting .right) (g′ .fitting .right)
 
-pub not-z : {r : Record} {s : Checker} {ls : List (List ℕ)} (l l′ : List ℕ) → Begins (s .batch) r → Goes r s l ls → Goes SegmentZ s l′ ls → ⊥
-not-z {s} {ls} l l′ h g g′ = let k = begins-moves s (recordIn l) h in begun-or-behind-z ls (k .phase) refl (k .batch) refl (g .rest) (g′ .rest)
+-- a payment has a second record
+second-comes : (b : Batch) {r : Record} → Stands b 0 r → phaseBehind 0 b ≡ Within 1
+second-comes Credit g = refl
+second-comes Boleto g = refl
+second-comes Unknown g = absurd (omega (arith, stands-in g))
+
+pub not-z : {r : Record} {s : Checker} {ls : List (List ℕ)} (l l′ : List ℕ) → Stands (s .batch) 0 r → Goes r s l ls → Goes SegmentZ s l′ ls → ⊥
+not-z {s = s} {ls} l l′ h g g′ =
+    let k = stands-moves s (recordIn l) h in
+    begun-or-behind-z ls (k .phase ∙ second-comes (s .batch) h) refl (k .batch) refl (g .rest) (g′ .rest)
 
 -- ---- the amount of a credit: the batch trailer has the sum
 
 -- behind a detail
 trailer-or-detail : {d : Direction} {b : Batch} {p : Phase} {r : Record} → Open p → Follows d b p r → (r ≡ BatchTrailer) ⊎ (typeOf r ≡ digitByte 3)
-trailer-or-detail at-begun (goes-on by-B) = inr refl
-trailer-or-detail at-begun (goes-on by-J52) = inr refl
+trailer-or-detail at-within (pays x g) = inr (row g .type)
 trailer-or-detail at-paid (adds-z e) = inr refl
-trailer-or-detail at-paid (pays-behind g) = inr (begins-detail g)
+trailer-or-detail at-paid (pays x g) = inr (row g .type)
 trailer-or-detail at-paid closes-paid = inl refl
-trailer-or-detail at-behind-z (pays-behind-z g) = inr (begins-detail g)
+trailer-or-detail at-behind-z (pays x g) = inr (row g .type)
 trailer-or-detail at-behind-z closes-behind-z = inl refl
 
 not-last : {p : Phase} → Open p → ended p ≡ true → ⊥
-not-last at-begun e = never e
+not-last at-within e = never e
 not-last at-paid e = never e
 not-last at-behind-z e = never e
 
@@ -114,7 +134,7 @@ record Twins (s s′ : Checker) : Type 0 where
   phases : s .phase ≡ s′ .phase
   directions : s .dir ≡ s′ .dir
   batches : s .batch ≡ s′ .batch
-  cents : s .current .cents .0 ≢ s′ .current .cents .0
+  cents : centSum (s .current) ≢ centSum (s′ .current)
 
 -- a detail more
 twins-next : {s s′ : Checker} (r : Record) (rec : List ℕ) → typeOf r ≡ digitByte 3 → Twins s s′ → Twins (next r s rec) (next r s′ rec)
@@ -150,5 +170,5 @@ module _ {p : ℕ} {s : Checker} {ls : List (List ℕ)} (l l′ : List ℕ) (d :
       let a = right-at (g .fitting .right) 19 (lit≤ tt) .0 in
       let a′ = right-at (g′ .fitting .right) 19 (lit≤ tt) .0 in
       not-twins ls
-      (record { still = at-begun; phases = refl; directions = refl; batches = refl; cents = λ e. not-worth d creditAmount (omega arith) a a′ (omega arith) h })
+      (record { still = at-within; phases = refl; directions = refl; batches = refl; cents = λ e. not-worth d creditAmount (omega arith) a a′ (omega arith) h })
       (g .rest) (g′ .rest)

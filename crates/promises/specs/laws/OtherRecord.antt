@@ -1,5 +1,5 @@
 -- Two lines at one state that differ at one place, both on the way to the end, are read as one record. Assumes nothing.
-use mathlib.Core.Path.{_≡_, refl, sym, ap, _∙_, subst}
+use mathlib.Core.Path.{_≡_, refl, sym, ap, _∙_, subst, subst⁻¹}
 use mathlib.Core.Logic.{_≢_}
 use mathlib.Core.List.{List}
 use Prim.Native.Nat.{ℕ}
@@ -8,10 +8,13 @@ use lib.Dec.{lit≤}
 use lib.ListN.{length, take, drop}
 use lib.Seq.{take-take}
 use Rattle.answer.specs.Rules.{AllKept}
+use Rattle.answer.specs.laws.Order.{never}
 use Rattle.digits.specs.Digits.{digitByte, leading, place}
 use Rattle.digits.specs.Numbers.{numberOf}
 use Rattle.digits.specs.declared.spelling.Number.the-variants.{Not}
-use Rattle.layout.specs.Table.{Field, part, field, K, typeOf, typePlace, fieldsOf, batchField, numberField}
+use Rattle.layout.specs.Field.{Field, part, field, K}
+use Rattle.layout.specs.Records.{typeOf}
+use Rattle.layout.specs.Table.{typePlace, fieldsOf, batchField, numberField}
 use Rattle.layout.specs.Kinds.{run, blank}
 use Rattle.layout.specs.laws.Bytes.{same-true, length-places}
 use Rattle.layout.specs.declared.Direction.{Direction}
@@ -19,11 +22,12 @@ use Rattle.layout.specs.declared.Record.{Record}
 use Rattle.layout.specs.declared.Record.the-variants.{BatchHeader, SegmentZ, BatchTrailer, FileTrailer}
 use Rattle.layout.specs.declared.pairs.Batch.{Batch}
 use Rattle.checker.specs.Line.{ordinal, trailerBatch, recordIn}
-use Rattle.checker.specs.declared.order.Phase.{Phase}
+use Rattle.layout.specs.declared.shapes.Phase.{Phase}
 use Rattle.checker.specs.declared.Checker.{Checker}
 use Rattle.promises.specs.Grammar.{RightLine}
 use Rattle.promises.specs.Guarded.{In}
-use Rattle.checker.specs.laws.Edges.{Begins, by-A, by-J, GoesOn, by-B, by-J52, Follows, heads, first-batch, first-payment, goes-on, adds-z, pays-behind, pays-behind-z, closes-paid, closes-behind-z, next-batch, ends, begins-detail}
+use Rattle.checker.specs.laws.Edges.{pays-behind, next-in, one-next, Follows, heads, first-batch, pays, adds-z, closes-paid, closes-behind-z, next-batch, ends}
+use Rattle.checker.specs.laws.Payments.{Stands, row, one-stands}
 use Rattle.checker.specs.laws.Details.{Asked, AllRead, detail-of}
 use Rattle.promises.specs.laws.Facts.{Fits}
 use Rattle.promises.specs.laws.Differ.{Differ, turned, kept}
@@ -36,42 +40,43 @@ use Rattle.promises.specs.laws.NextLine.{not-z}
 data Apart (b : Batch) : Record → Record → Type 0 where
   pays-or-closes : {r : Record} → typeOf r ≡ digitByte 3 → Apart b r BatchTrailer
   opens-or-ends : Apart b BatchHeader FileTrailer
-  begins-or-z : {r : Record} → Begins b r → Apart b r SegmentZ
+  begins-or-z : {r : Record} → Stands b 0 r → Apart b r SegmentZ
 
 data Two (b : Batch) (r r′ : Record) : Type 0 where
   one : r ≡ r′ → Two b r r′
   apart : Apart b r r′ → Two b r r′
   apart-turned : Apart b r′ r → Two b r r′
 
-one-begins : {b : Batch} {r r′ : Record} → Begins b r → Begins b r′ → Two b r r′
-one-begins by-A by-A = one refl
-one-begins by-J by-J = one refl
-
-one-goes-on : {b : Batch} {r r′ : Record} → GoesOn b r → GoesOn b r′ → Two b r r′
-one-goes-on by-B by-B = one refl
-one-goes-on by-J52 by-J52 = one refl
+-- a line that is one of a payment's, and another
+stands-two : {b : Batch} {n m : ℕ} {r r′ : Record} → n ≡ m → Stands b n r → Stands b m r′ → Two b r r′
+stands-two {b} {r′ = r′} e g h = one (one-stands g (subst⁻¹ (λ (k : ℕ). Stands b k r′) e h))
 
 two : {d : Direction} {b : Batch} {p : Phase} {r r′ : Record} → Follows d b p r → Follows d b p r′ → Two b r r′
 two heads heads = one refl
+two heads (pays x g) = never (next-in x)
 two first-batch first-batch = one refl
-two (first-payment g) (first-payment h) = one-begins g h
-two (goes-on g) (goes-on h) = one-goes-on g h
+two first-batch (pays x g) = never (next-in x)
+two (pays x g) heads = never (next-in x)
+two (pays x g) first-batch = never (next-in x)
+two (pays x g) (pays y h) = stands-two (one-next x y) g h
+two (pays pays-behind g) (adds-z h) = apart (begins-or-z g)
+two (pays x g) closes-paid = apart (pays-or-closes (row g .type))
+two (pays x g) closes-behind-z = apart (pays-or-closes (row g .type))
+two (pays x g) next-batch = never (next-in x)
+two (pays x g) ends = never (next-in x)
 two (adds-z e) (adds-z h) = one refl
-two (adds-z e) (pays-behind h) = apart-turned (begins-or-z h)
+two (adds-z e) (pays pays-behind h) = apart-turned (begins-or-z h)
 two (adds-z e) closes-paid = apart (pays-or-closes refl)
-two (pays-behind g) (adds-z h) = apart (begins-or-z g)
-two (pays-behind g) (pays-behind h) = one-begins g h
-two (pays-behind g) closes-paid = apart (pays-or-closes (begins-detail g))
 two closes-paid (adds-z h) = apart-turned (pays-or-closes refl)
-two closes-paid (pays-behind h) = apart-turned (pays-or-closes (begins-detail h))
+two closes-paid (pays x h) = apart-turned (pays-or-closes (row h .type))
 two closes-paid closes-paid = one refl
-two (pays-behind-z g) (pays-behind-z h) = one-begins g h
-two (pays-behind-z g) closes-behind-z = apart (pays-or-closes (begins-detail g))
-two closes-behind-z (pays-behind-z h) = apart-turned (pays-or-closes (begins-detail h))
+two closes-behind-z (pays x h) = apart-turned (pays-or-closes (row h .type))
 two closes-behind-z closes-behind-z = one refl
 two next-batch next-batch = one refl
+two next-batch (pays x h) = never (next-in x)
 two next-batch ends = apart opens-or-ends
 two ends next-batch = apart-turned opens-or-ends
+two ends (pays x h) = never (next-in x)
 two ends ends = one refl
 
 -- ---- what the lines show

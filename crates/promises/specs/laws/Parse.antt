@@ -10,28 +10,31 @@ use Rattle.answer.specs.Limits.{fileCents}
 use Rattle.answer.specs.laws.Order.{never}
 use Rattle.digits.specs.Digits.{digitByte}
 use Rattle.digits.specs.Numbers.{value}
-use Rattle.layout.specs.Table.{part, typeOf, bankField, batchRecords, batchSum, fileBatches, fileRecords}
+use Rattle.layout.specs.Field.{part}
+use Rattle.layout.specs.Records.{typeOf}
+use Rattle.layout.specs.Table.{bankField, batchRecords, batchSum, fileBatches, fileRecords}
 use Rattle.layout.specs.declared.Direction.{Direction}
 use Rattle.layout.specs.declared.Record.{Record}
 use Rattle.layout.specs.declared.Record.the-variants.{FileHeader, BatchHeader, BatchTrailer, FileTrailer}
-use Rattle.layout.specs.declared.pairs.Batch.{Batch}
-use Rattle.checker.specs.Order.{after, ended}
-use Rattle.checker.specs.Totals.{totals, none, add, batchesOf, paymentsOf, centsOf, counts}
+use Rattle.layout.specs.Records.{after}
+use Rattle.checker.specs.Order.{ended}
+use Rattle.checker.specs.Totals.{totals, none, add, batchesOf, paymentsOf, centsOf, counts, batchCount, centSum, recordCount}
 use Rattle.checker.specs.Line.{ordinal, mostBatches, mostPayments, trailerBatch, recordIn}
 use Rattle.checker.specs.Machine.{state, start, directionOf, next}
 use Rattle.checker.specs.inner.Steps.{Bounded}
 use Rattle.checker.specs.Calls.{Reached, at-start, after-line, Through, here, further}
-use Rattle.checker.specs.declared.order.Phase.{Phase}
-use Rattle.checker.specs.declared.order.Phase.the-variants.{Start, Headed, Opened, Begun, Paid, BehindZ, Closed, Ended}
+use Rattle.layout.specs.declared.shapes.Phase.{Phase}
+use Rattle.layout.specs.declared.shapes.Phase.the-variants.{Start, Headed, Opened, Within, Paid, BehindZ, Closed, Ended}
 use Rattle.checker.specs.declared.totals.Totals.{Totals}
 use Rattle.checker.specs.declared.Checker.{Checker}
 use Rattle.checker.specs.laws.Kept.{kept-bounded}
 use Rattle.checker.specs.laws.Reached.{reached-kept}
-use Rattle.checker.specs.laws.Verdict.{through-reached}
+use Rattle.files.specs.laws.Verdict.{through-reached}
 use Rattle.checker.specs.laws.Sums.{Same, same-totals}
 use Rattle.promises.specs.Grammar.{Reads, Numbered, Details, no-details, detail, RightBatch, Batches, no-batches, batch, RightFile}
-use Rattle.checker.specs.laws.Edges.{Begins, by-A, by-J, GoesOn, by-B, by-J52, Follows, heads, first-batch, first-payment, goes-on, adds-z, pays-behind, pays-behind-z, closes-paid, closes-behind-z, next-batch, ends, follows-by}
-use Rattle.checker.specs.laws.Details.{inDetail, AllRead, detail-of}
+use Rattle.checker.specs.laws.Edges.{first-payment, goes-on, pays-behind, pays-behind-z, Follows, heads, first-batch, pays, adds-z, closes-paid, closes-behind-z, next-batch, ends, follows-by}
+use Rattle.checker.specs.laws.Payments.{Stands, row}
+use Rattle.checker.specs.laws.Details.{inDetail, AllRead, Open, at-within, at-paid, at-behind-z, detail-of}
 use Rattle.promises.specs.laws.Facts.{Fits, taken, header-bank, either-direction}
 use Rattle.promises.specs.laws.Shape.{batches-long, Tail, stops-paid, stops-behind-z, steps, tail-payments}
 
@@ -50,7 +53,7 @@ record Later (d : Direction) (bank : ℕ) (closed : Totals) (ls : List (List ℕ
   are : Same t (add (add closed inside) (totals 0 1 0 0))
 
 -- in a batch, at a phase: its other details, its trailer, where its lines count the sum, and what is left behind it
-record Within (p : Phase) (s : Checker) (ls : List (List ℕ)) (t : Totals) : Type 0 where
+record Inside (p : Phase) (s : Checker) (ls : List (List ℕ)) (t : Totals) : Type 0 where
   details : List (List ℕ)
   trailer : List ℕ
   rest : List (List ℕ)
@@ -60,7 +63,7 @@ record Within (p : Phase) (s : Checker) (ls : List (List ℕ)) (t : Totals) : Ty
   sum : Totals
   lines : ls ≡ details ++ trailer ∷ rest
   shape : Tail (s .dir) (s .batch) p payments records
-  details-right : Details (s .dir) (s .bank) (ordinal s) (s .current .records .0) records details cents
+  details-right : Details (s .dir) (s .bank) (ordinal s) (recordCount (s .current)) records details cents
   trailer-right : Numbered BatchTrailer (s .dir) (s .bank) (ordinal s) trailer
   counted : Reads batchRecords (sum .records .0) trailer
   summed : Reads batchSum (sum .cents .0) trailer
@@ -72,10 +75,10 @@ record Within (p : Phase) (s : Checker) (ls : List (List ℕ)) (t : Totals) : Ty
 abbrev Left : Phase → Checker → List (List ℕ) → Totals → Type 0
 Left Start s ls t = (t .batches ≤ mostBatches) × (t .cents .0 < fileCents) → Same (s .closed) none → Same (s .current) none → RightFile ls t
 Left Headed s ls t = Same (s .current) none → (x : Later (s .dir) (s .bank) (s .closed) ls t) × (1 ≤ x .inside .batches)
-Left Opened s ls t = Within Opened s ls t
-Left Begun s ls t = Within Begun s ls t
-Left Paid s ls t = Within Paid s ls t
-Left BehindZ s ls t = Within BehindZ s ls t
+Left Opened s ls t = Inside Opened s ls t
+Left (Within n) s ls t = Inside (Within n) s ls t
+Left Paid s ls t = Inside Paid s ls t
+Left BehindZ s ls t = Inside BehindZ s ls t
 Left Closed s ls t = Same (s .current) none → Later (s .dir) (s .bank) (s .closed) ls t
 Left Ended s ls t = (ls ≡ []) × (t ≡ s .closed)
 
@@ -97,13 +100,13 @@ module _ (s : Checker) (l : List ℕ) (ls : List (List ℕ)) (t : Totals) where
         lines = refl;
         batches-right = no-batches;
         trailer-right = record { right = x .right; bank-is = x .numbers .0; batch-is = x .numbers .1 .0 };
-        batches-counted = rw (add-zero (s .closed .batches)) (x .numbers .1 .1 .0);
+        batches-counted = rw (add-zero (batchCount (s .closed))) (x .numbers .1 .1 .0);
         records-counted = x .numbers .1 .1 .1 .0;
         are = omega arith;
       })
 
   -- a batch's trailer
-  closed-by : {p : Phase} → Bounded s → Tail (s .dir) (s .batch) p 0 [] → Fits BatchTrailer s l → Behind BatchTrailer → Within p s (l ∷ ls) t
+  closed-by : {p : Phase} → Bounded s → Tail (s .dir) (s .batch) p 0 [] → Fits BatchTrailer s l → Behind BatchTrailer → Inside p s (l ∷ ls) t
   unfolding add AllRead
   closed-by h shape x on =
       record {
@@ -119,7 +122,7 @@ module _ (s : Checker) (l : List ℕ) (ls : List (List ℕ)) (t : Totals) where
         details-right = no-details;
         trailer-right = record { right = x .right; bank-is = x .numbers .0; batch-is = x .numbers .1 .0 };
         counted = x .numbers .1 .1 .0;
-        summed = rw (add-zero (s .current .cents .0)) (x .numbers .1 .1 .1 .0);
+        summed = rw (add-zero (centSum (s .current))) (x .numbers .1 .1 .1 .0);
         most = omega arith;
         are = omega arith;
         later = on (omega arith);
@@ -131,8 +134,8 @@ module _ (s : Checker) (l : List ℕ) (ls : List (List ℕ)) (t : Totals) where
       state (after r) (s .dir) (s .batch) (s .bank) (s .closed) (add (s .current) (totals (batchesOf r) 1 (paymentsOf r) (centsOf r (recordIn l))))
 
   -- a detail
-  detail-by : {p : Phase} {r : Record} → Follows (s .dir) (s .batch) p r → typeOf r ≡ digitByte 3 → Fits r s l → Within (after r) (counting r) ls t
-      → Within p s (l ∷ ls) t
+  detail-by : {p : Phase} {r : Record} → Follows (s .dir) (s .batch) p r → typeOf r ≡ digitByte 3 → Fits r s l → Inside (after r) (counting r) ls t
+      → Inside p s (l ∷ ls) t
   unfolding add AllRead
   detail-by {p} {r} f type x y =
       let o = detail-of r type in
@@ -157,14 +160,17 @@ module _ (s : Checker) (l : List ℕ) (ls : List (List ℕ)) (t : Totals) where
         later = y .later;
       }
 
-  -- the first record of a payment, and the second
-  begins-by : {b : Batch} {p : Phase} {r : Record} → Begins b r → Follows (s .dir) (s .batch) p r → Fits r s l → Behind r → Within p s (l ∷ ls) t
-  begins-by by-A f x on = detail-by f refl x on
-  begins-by by-J f x on = detail-by f refl x on
+  -- of a payment's records
+  in-batch : {p : Phase} {u : Checker} → Open p → Left p u ls t → Inside p u ls t
+  in-batch at-within on = on
+  in-batch at-paid on = on
+  in-batch at-behind-z on = on
 
-  goes-on-by : {b : Batch} {r : Record} → GoesOn b r → Follows (s .dir) (s .batch) Begun r → Fits r s l → Behind r → Within Begun s (l ∷ ls) t
-  goes-on-by by-B f x on = detail-by f refl x on
-  goes-on-by by-J52 f x on = detail-by f refl x on
+  stands-by : {n : ℕ} {p : Phase} {r : Record} → Stands (s .batch) n r → Follows (s .dir) (s .batch) p r → Fits r s l → Behind r → Inside p s (l ∷ ls) t
+  stands-by {r = r} g f x on =
+      let o = detail-of r (row g .type) in
+      let to : next r s (recordIn l) ≡ counting r = o .moves s (recordIn l) in
+      detail-by f (row g .type) x (in-batch (o .stays) (subst (λ (u : Checker). Left (u .phase) u ls t) to on))
 
   -- a batch's header: with what is left of the batch it is a batch ..
   right-batch : Same (s .current) none → Fits BatchHeader s l → (y : Behind BatchHeader)
@@ -172,7 +178,7 @@ module _ (s : Checker) (l : List ℕ) (ls : List (List ℕ)) (t : Totals) where
   unfolding add AllRead
   right-batch e x y =
       let long : y .sum .records .0 ≡ length (l ∷ (y .details ++ y .trailer ∷ [])) = omega (arith, length-append (y .details) (y .trailer ∷ [])) in
-      let one : s .current .records .0 + 1 ≡ 1 = omega arith in
+      let one : recordCount (s .current) + 1 ≡ 1 = omega arith in
       let sum : y .sum .cents .0 ≡ y .cents = omega arith in
       let paid = tail-payments (y .shape) in
       record {
@@ -200,7 +206,7 @@ module _ (s : Checker) (l : List ℕ) (ls : List (List ℕ)) (t : Totals) where
   opened-by x y e =
       let b = right-batch e x y in
       let o = y .later in
-      let one : s .closed .batches + y .sum .batches ≡ s .closed .batches + 1 = omega arith in
+      let one : batchCount (s .closed) + y .sum .batches ≡ batchCount (s .closed) + 1 = omega arith in
       let others = subst (λ n. Batches (s .dir) (s .bank) n (o .middle) (o .inside)) one (o .batches-right) in
       let opened : Later (s .dir) (s .bank) (s .closed) (l ∷ ls) t = record {
         middle = (l ∷ (y .details ++ y .trailer ∷ [])) ++ o .middle;
@@ -223,7 +229,7 @@ module _ (s : Checker) (l : List ℕ) (ls : List (List ℕ)) (t : Totals) where
       let long : t .records .0 ≡ length (l ∷ ls) =
       omega (arith, batches-long (o .batches-right), length-append (o .middle) (o .trailer ∷ []), ap (λ (ls : List (List ℕ)). length ls) (o .lines)) in
       let counted : t .batches ≡ o .inside .batches = omega arith in
-      let zero : s .closed .batches + 0 ≡ 0 = omega arith in
+      let zero : batchCount (s .closed) + 0 ≡ 0 = omega arith in
       let d = directionOf (recordIn l) in
       let bank = value (part bankField (recordIn l)) in
       record {
@@ -250,11 +256,11 @@ module _ (s : Checker) (l : List ℕ) (ls : List (List ℕ)) (t : Totals) where
   left-by : {p : Phase} {r : Record} → Bounded s → Follows (s .dir) (s .batch) p r → Fits r s l → Behind r → Left p s (l ∷ ls) t
   left-by h heads x on = headed-by x on
   left-by h first-batch x on = opened-by x on
-  left-by h (first-payment f) x on = begins-by f (first-payment f) x on
-  left-by h (goes-on f) x on = goes-on-by f (goes-on f) x on
+  left-by h (pays first-payment g) x on = stands-by g (pays first-payment g) x on
+  left-by h (pays goes-on g) x on = stands-by g (pays goes-on g) x on
   left-by h (adds-z e) x on = detail-by (adds-z e) refl x on
-  left-by h (pays-behind f) x on = begins-by f (pays-behind f) x on
-  left-by h (pays-behind-z f) x on = begins-by f (pays-behind-z f) x on
+  left-by h (pays pays-behind g) x on = stands-by g (pays pays-behind g) x on
+  left-by h (pays pays-behind-z g) x on = stands-by g (pays pays-behind-z g) x on
   left-by h closes-paid x on = closed-by h stops-paid x on
   left-by h closes-behind-z x on = closed-by h stops-behind-z x on
   left-by h next-batch x on = λ e. opened-by x on e .0
@@ -267,7 +273,7 @@ nothing-left : (p : Phase) (s : Checker) → ended p ≡ true → Left p s [] (s
 nothing-left Start s e = never e
 nothing-left Headed s e = never e
 nothing-left Opened s e = never e
-nothing-left Begun s e = never e
+nothing-left (Within n) s e = never e
 nothing-left Paid s e = never e
 nothing-left BehindZ s e = never e
 nothing-left Closed s e = never e

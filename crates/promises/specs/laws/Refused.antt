@@ -9,11 +9,11 @@ use Rattle.answer.specs.Rules.{refusal}
 use Rattle.answer.specs.declared.LineNo.{LineNo}
 use Rattle.answer.specs.declared.Refusal.{Refusal}
 use Rattle.checker.specs.Machine.{start, lineOf}
-use Rattle.checker.specs.File.{linesOf, checkFile}
+use Rattle.files.specs.File.{linesOf, checkFile}
 use Rattle.checker.specs.Calls.{Through}
-use Rattle.checker.specs.laws.Verdict.{Stopped, at-line, at-end, refused-file, line-named}
+use Rattle.files.specs.laws.Verdict.{Stopped, at-line, at-end, refused-file, line-named}
 use Rattle.checker.specs.declared.Checker.{Checker}
-use Rattle.checker.specs.declared.file.Outcome.the-variants.{Refused}
+use Rattle.files.specs.declared.Outcome.the-variants.{Refused}
 use Rattle.promises.specs.Refusals.{behindLines, RefusedWith, too-early}
 use Rattle.promises.specs.Refusals as refusals
 

@@ -3,10 +3,11 @@
 use mathlib.Core.Path.{_≡_, refl, sym, ap, ap₂, _∙_, subst, subst⁻¹}
 use mathlib.Core.Logic.{_↔_}
 use mathlib.Core.Bool.{true}
-use mathlib.Core.List.{List, [], _∷_, _++_, flatten}
-use Prim.Native.Nat.{ℕ, _+_, _≤_, _<_}
+use mathlib.Core.List.{List, [], _∷_, _++_, flatten, append-assoc, append-nil}
+use Prim.Native.Nat.{ℕ, suc, _+_, _≤_, _<_}
+use native.Mathlib.Decide.{decLt}
 use native.Mathlib.Omega.{arith}
-use borrow.Author.Tests.{le-leb, lt-ltb}
+use borrow.Author.Tests.{le-leb, lt-ltb, le-ltb}
 use lib.ListN.{length, drop, length-append, take-append-drop}
 use Rattle.answer.specs.Limits.{fileCents, mostRecords}
 use Rattle.answer.specs.Rules.{AllKept}
@@ -14,42 +15,49 @@ use Rattle.answer.specs.laws.Order.{never}
 use Rattle.answer.specs.declared.Answer.{Answer}
 use Rattle.answer.specs.declared.Answer.the-variants as answer
 use Rattle.digits.specs.laws.Numerals.{given-lt}
-use Rattle.layout.specs.Table.{part, isOneOf, fileRecords}
+use Rattle.layout.specs.Pairs.{batchOf}
+use Rattle.layout.specs.Field.{part}
+use Rattle.layout.specs.Records.{isOneOf}
+use Rattle.layout.specs.Table.{fileRecords, serviceField, formField}
 use Rattle.layout.specs.laws.Bytes.{length-places}
-use Rattle.layout.specs.declared.Direction.the-variants.{Return}
 use Rattle.layout.specs.declared.Record.{Record}
 use Rattle.layout.specs.declared.Record.the-variants.{FileHeader, BatchHeader, SegmentZ, BatchTrailer, FileTrailer}
 use Rattle.layout.specs.declared.pairs.Batch.{Batch}
 use Rattle.fields.specs.Values.{fieldsIn, ofRecord}
-use Rattle.checker.specs.Order.{first, second, after, ended}
-use Rattle.checker.specs.Totals.{add, centsOf}
+use Rattle.checker.specs.Order.{payment, ended}
+use Rattle.layout.specs.Records.{after}
+use Rattle.checker.specs.Totals.{add, centsOf, paymentCount}
 use Rattle.checker.specs.Line.{recordIn, lineFrom, mostPayments}
 use Rattle.checker.specs.Machine.{start, next, mostDetails}
-use Rattle.checker.specs.File.{linesOf, checkFile}
+use Rattle.files.specs.File.{linesOf, checkFile}
 use Rattle.checker.specs.Calls.{at-start, Through, here, further}
 use Rattle.checker.specs.laws.Sums.{next-counts}
-use Rattle.checker.specs.laws.Details.{Limit}
+use Rattle.checker.specs.laws.Details.{detail-of}
 use Rattle.checker.specs.laws.Asks.{Body}
-use Rattle.checker.specs.laws.Edges.{Begins, by-A, by-J, GoesOn, by-B, by-J52, Follows, heads, first-batch, first-payment, goes-on, adds-z, pays-behind, pays-behind-z, closes-paid, closes-behind-z, next-batch, ends, Moved, moved-on, begins-moves, goes-on-moves}
+use Rattle.checker.specs.laws.Edges.{first-payment, goes-on, pays-behind, pays-behind-z, Follows, heads, first-batch, pays, adds-z, closes-paid, closes-behind-z, next-batch, ends, Moved, stands-moves}
+use Rattle.checker.specs.laws.Payments.{Stands, phaseBehind, brief, head-of, row, stands-in}
 use Rattle.checker.specs.laws.Meaning.{kept-line, next-phase}
 use Rattle.checker.specs.laws.Reached.{reached-kept}
-use Rattle.checker.specs.laws.Runs.{lines-joined}
-use Rattle.checker.specs.laws.Verdict.{Passed, next-line-no, accepted-file}
-use Rattle.checker.specs.declared.order.Phase.{Phase}
-use Rattle.checker.specs.declared.order.Phase.the-variants.{Start, Headed, Opened, Begun, Paid, BehindZ, Closed, Ended}
+use Rattle.files.specs.laws.Runs.{lines-joined}
+use Rattle.files.specs.laws.Verdict.{Passed, next-line-no, accepted-file}
+use Rattle.layout.specs.declared.shapes.Phase.{Phase}
+use Rattle.layout.specs.declared.shapes.Phase.the-variants.{Start, Headed, Opened, Within, Paid, BehindZ, Closed, Ended}
 use Rattle.checker.specs.declared.totals.Totals.{Totals}
-use Rattle.checker.specs.declared.file.Outcome.{Outcome}
-use Rattle.checker.specs.declared.file.Outcome.the-variants.{Accepted}
+use Rattle.files.specs.declared.Outcome.{Outcome}
+use Rattle.files.specs.declared.Outcome.the-variants.{Accepted}
 use Rattle.checker.specs.declared.Checker.{Checker}
-use Rattle.writer.specs.Given.{Call, openFile, openBatch, pay, closeBatch, closeFile, two, three, recordsOf, amountOf}
-use Rattle.writer.specs.Filling.{bytesOf}
-use Rattle.writer.specs.Refusals.{turns, recordsSoFar, leastDetails, trailers, turnLimits, zIn as notesIn, nextBy, centsSoFar, sumRules, size}
-use Rattle.writer.specs.inner.Placed.{expectedInPayment, expectedIn, expectedNow}
+use Rattle.writer.specs.Given.{Call, openFile, openBatch, pay, closeBatch, closeFile, recordsIn, recordsOf, amountOf, amountIn}
+use Rattle.filling.specs.Filling.{bytesOf}
+use Rattle.writer.specs.Refusals.{turns, recordsSoFar, kindGiven, leastDetails, trailers, turnLimits, expectedInPayment, expectedIn, expectedNow, nextBy, centsSoFar, sumRules, size}
+use Rattle.writer.specs.inner.Steps.{expectedAt}
 use Rattle.writer.specs.Outcome.{writer, newWriter, linesFor, behindAll, cursorBehind, answerOf}
 use Rattle.writer.specs.Calls.{WholeCalls, no-call, and-call, stateBehind, left, linesIf, written, putIn, lent, memoryBehind, lentOn, memory}
-use Rattle.writer.specs.laws.Fits.{reserve}
-use Rattle.writer.specs.laws.Expected.{expected-first, expected-second, expected-z}
-use Rattle.writer.specs.laws.Turn.{header-turn, batch-turn, payment-turn, trailer-turn, end-turn}
+use Rattle.writer.specs.laws.Given.{begins-with, fewest, as-payment}
+use Rattle.writer.specs.laws.KindGiven.{kind-is}
+use Rattle.writer.specs.laws.Paying.{drop-one}
+use Rattle.writer.specs.laws.Expected.{expected-own, expected-last}
+use Rattle.layout.specs.laws.Records.{itself}
+use Rattle.writer.specs.laws.Turn.{header-turn, batch-turn, trailer-turn, end-turn}
 use Rattle.writer.specs.laws.Accepted.{kept-call, Right, Rights, none, more, rights-kept, rights-whole}
 use Rattle.writer.specs.laws.GivenBack.{bytes-back, right-back}
 use Rattle.writer.specs.laws.Counted.{amount-is}
@@ -57,6 +65,7 @@ use Rattle.writer.specs.laws.Answers.{wrote-length}
 use Rattle.writer.specs.laws.Memory.{cursor-is, memory-is, memory-behind}
 use Rattle.writer.specs.laws.Sequences.{held-kept, file-accepted}
 use Rattle.fields.specs.declared.Fields.{Fields}
+use Rattle.writer.specs.declared.given.Payment.{Payment}
 use Rattle.writer.specs.declared.Writer.{Writer}
 use Rattle.promises.specs.Rewriting.{recordsRead, recordsGiven, AllAccepted, none-refused, accepts, WrittenBack, WrittenBy}
 use Rattle.promises.specs.laws.Behind.{Ends, Goes, goes, at-last}
@@ -185,7 +194,9 @@ module _ {s : Checker} {l : List ℕ} {ls : List (List ℕ)} where
   opens-batch : Goes BatchHeader s l ls → Writes (next BatchHeader s (recordIn l)) ls → Writes s (l ∷ ls)
   unfolding AllKept
   opens-batch g on at out h =
-      let few = le-leb (recordsSoFar s + (1 + leastDetails + trailers)) mostRecords (omega (arith, h .few, enough-lines ls (g .rest))) in
+      let kind : batchOf (s .dir) (part serviceField (recordIn l)) (part formField (recordIn l)) ≡ kindGiven (s .dir) (back BatchHeader l) =
+      rw (same-bytes g) at (kind-is (fieldsIn BatchHeader (recordIn l)) (is-right g {expected = BatchHeader ∷ []} refl)) in
+      let few = le-leb (recordsSoFar s + (1 + leastDetails (kindGiven (s .dir) (back BatchHeader l)) + trailers)) mostRecords (rw (← kind) (omega (arith, h .few, enough-lines ls (g .rest)))) in
       one-call (writer s at) (openBatch (back BatchHeader l)) out ls (gives-more g refl gives-none) h
       (batch-turn (g .follows), (le-leb _ _ (g .fitting .limit), (few, tt))) tt (g .rest) on
 
@@ -201,86 +212,89 @@ module _ {s : Checker} {l : List ℕ} {ls : List (List ℕ)} where
 
 -- ---- payments
 
-begins-limit : {b : Batch} {r : Record} (s : Checker) → Begins b r → Limit r s → s .current .payments + 1 ≤ mostPayments
-begins-limit s by-A m = m
-begins-limit s by-J m = m
-
--- the first record of a payment, from a state t to a state s, and lines behind it
-record First (t : Checker) (l : List ℕ) (ls : List (List ℕ)) (s : Checker) : Type 0 where
-  by : Record
-  begins : Begins (t .batch) by
-  read : Goes by t l ls
-  is : next by t (recordIn l) ≡ s
-
--- and the second
-record Second (t : Checker) (l m : List ℕ) (ls : List (List ℕ)) (s : Checker) : Type 0 where
-  mid : Checker
-  one : First t l (m ∷ ls) mid
-  by : Record
-  goes-on : GoesOn (mid .batch) by
-  read : Goes by mid m ls
-  is : next by mid (recordIn m) ≡ s
-
-module _ {t s : Checker} {l : List ℕ} {ls : List (List ℕ)} (x : First t l ls s) where
-  first-moved : Moved t s Begun
-  first-moved = subst (λ (u : Checker). Moved t u Begun) (x .is) (begins-moves t (recordIn l) (x .begins))
-
+-- so many lines are the records of a payment, from a state t to a state s, with other lines behind them: they are given back with what is given back
+-- behind them; and the call is in turn, with few enough payments and a sum that fits
+record Part (t : Checker) (n : ℕ) (done ls : List (List ℕ)) (s : Checker) : Type 0 where
+  first : Fields
+  others : List Fields
+  many : length (first ∷ others) ≡ n
+  gives : (gs : List Fields) (later : List (List ℕ)) (u : Checker) → Gives (drop n (expectedInPayment t)) s gs later u
+      → Gives (expectedInPayment t) t ((first ∷ others) ++ gs) (done ++ later) u
+  same-dir : s .dir ≡ t .dir
+  same-batch : s .batch ≡ t .batch
   may-pay : turns (t .phase) .payment ≡ true
-  may-pay = payment-turn (x .begins) (x .read .follows)
+  few : paymentCount (t .current) + 1 ≤ mostPayments
+  sum-fits : centsSoFar t + amountOf (first .which) first < fileCents
+  paid : 1 ≤ length (payment (t .batch))
+  rest : Ends s ls
 
-  few-payments : t .current .payments + 1 ≤ mostPayments
-  few-payments = begins-limit t (x .begins) (x .read .fitting .limit)
-
-  sum-fits : centsSoFar t + amountOf (x .by) (back (x .by) l) < fileCents
+-- the first
+module _ {r : Record} {t : Checker} {l : List ℕ} {ls : List (List ℕ)} (f : Stands (t .batch) 0 r) (g : Goes r t l ls) where
+  sum-of-first : centsSoFar t + amountOf r (back r l) < fileCents
   unfolding add
-  sum-fits =
-      let given-amount = amount-is {expected = first (t .batch)} (x .by) (back (x .by) l) (is-right (x .read) (expected-first (x .begins))) in
-      let amount = ap (centsOf (x .by)) (sym (same-bytes (x .read))) ∙ given-amount in
-      let more = ap (λ (u : Totals). u .cents .0) (next-counts (x .by) t (recordIn l)) in
-      omega (arith, sum-below ls (x .read .rest))
+  sum-of-first =
+      let given-amount = amount-is {expected = r ∷ []} r (back r l) (is-right g (itself r)) in
+      let amount = ap (centsOf r) (sym (same-bytes g)) ∙ given-amount in
+      let more = ap (λ (u : Totals). u .cents .0) (next-counts r t (recordIn l)) in
+      omega (arith, sum-below ls (g .rest))
 
-module _ {t s : Checker} {l m : List ℕ} {ls : List (List ℕ)} (x : Second t l m ls s) where
-  second-moved : Moved t s Paid
-  second-moved =
-      moved-on (first-moved (x .one)) (subst (λ (u : Checker). Moved (x .mid) u Paid) (x .is) (goes-on-moves (x .mid) (recordIn m) (x .goes-on)))
+  part-begun : turns (t .phase) .payment ≡ true → Part t 1 (l ∷ []) ls (next r t (recordIn l))
+  part-begun turn =
+      let limit = detail-of r (row f .type) .limits t .1 (g .fitting .limit) in
+      let moved = stands-moves t (recordIn l) f in
+      record {
+        first = back r l;
+        others = [];
+        many = refl;
+        gives = λ gs later u y. gives-more {expected = expectedInPayment t} g (expected-own (t .dir) f) y;
+        same-dir = moved .dir;
+        same-batch = moved .batch;
+        may-pay = turn;
+        few = omega (arith, row f .begins);
+        sum-fits = sum-of-first;
+        paid = omega (arith, stands-in f);
+        rest = g .rest;
+      }
 
-  second-rest : Ends s ls
-  second-rest = subst (λ (u : Checker). Ends u ls) (x .is) (x .read .rest)
+-- and the next
+part-more : {t s : Checker} {n : ℕ} {r : Record} {l : List ℕ} {done ls : List (List ℕ)} → Part t n done (l ∷ ls) s → Goes r s l ls
+    → expectedAt n (t .dir) (t .batch) r ≡ true → Moved s (next r s (recordIn l)) (after r) → Part t (suc n) (done ++ l ∷ []) ls (next r s (recordIn l))
+part-more {t} {s} {n} {r} {l} {done} {ls} x g e m =
+    record {
+      first = x .first;
+      others = x .others ++ back r l ∷ [];
+      many = rw length-append (omega (arith, x .many));
+      gives = λ gs later u y.
+          let z : Gives (drop 1 (drop n (expectedInPayment t))) (next r s (recordIn l)) gs later u = rw (drop-one n (expectedInPayment t)) y in
+          rw (append-assoc (x .others) (back r l ∷ []) gs, append-assoc done (l ∷ []) later)
+          (x .gives (back r l ∷ gs) (l ∷ later) u (gives-more {expected = drop n (expectedInPayment t)} g e z));
+      same-dir = m .dir ∙ x .same-dir;
+      same-batch = m .batch ∙ x .same-batch;
+      may-pay = x .may-pay;
+      few = x .few;
+      sum-fits = x .sum-fits;
+      paid = x .paid;
+      rest = g .rest;
+    }
 
-  a : Fields
-  a = back (x .one .by) l
+-- a payment of all its records, or of a Z more
+module _ {t s : Checker} {n : ℕ} {done ls : List (List ℕ)} (x : Part t n done ls s) (all : length (payment (t .batch)) ≤ n) (most : n ≤ mostDetails) (trailed : trailers ≤ length ls) where
+  abbrev gs : List Fields
+  gs = x .first ∷ x .others
 
-  b : Fields
-  b = back (x .by) m
+  paid-by : (p : Payment) × (recordsIn p ≡ gs)
+  paid-by = as-payment gs (omega (arith, x .many, fewest (t .batch) (x .paid))) (omega (arith, x .many))
 
-  two-given : {gs : List Fields} {done : List (List ℕ)} {u : Checker} → Gives (notesIn (t .dir) ∷ []) s gs done u
-      → Gives (expectedInPayment t) t (a ∷ b ∷ gs) (l ∷ m ∷ done) u
-  unfolding a b
-  two-given {gs} {done} {u} y =
-      let batch = subst (λ (k : Batch). GoesOn k (x .by)) (first-moved (x .one) .batch) (x .goes-on) in
-      let z = subst⁻¹ (λ (v : Checker). Gives (notesIn (t .dir) ∷ []) v gs done u) (x .is) y in
-      let later = gives-more {expected = second (t .batch) ∷ notesIn (t .dir) ∷ []} (x .read) (expected-second batch) z in
-      gives-more {expected = expectedInPayment t} (x .one .read) (expected-first (x .one .begins))
-      (subst⁻¹ (λ (v : Checker). Gives (second (t .batch) ∷ notesIn (t .dir) ∷ []) v (b ∷ gs) (m ∷ done) u) (x .one .is) later)
-
--- of two records, and of three
-pays-two : {t s : Checker} {l m : List ℕ} {ls : List (List ℕ)} → Second t l m ls s → Writes s ls → Writes t (l ∷ m ∷ ls)
-unfolding AllKept a b
-pays-two {t} {s} {l} {m} {ls} x on at out h =
-    let rest = second-rest x in
-    let least : reserve Paid ≤ length ls = rw (second-moved x .phase) at (enough-lines ls rest) in
-    let few = le-leb (recordsSoFar t + (leastDetails + trailers)) mostRecords (omega (arith, h .few)) in
-    one-call (writer t at) (pay (two (a x) (b x))) out ls (two-given x gives-none) h
-    (may-pay (x .one), (le-leb _ _ (few-payments (x .one)), (few, tt))) (lt-ltb _ _ (sum-fits (x .one)), tt) rest on
-
-pays-three : {t s : Checker} {l m n : List ℕ} {ls : List (List ℕ)} → Second t l m (n ∷ ls) s → s .dir ≡ Return → Goes SegmentZ s n ls
-    → Writes (next SegmentZ s (recordIn n)) ls → Writes t (l ∷ m ∷ n ∷ ls)
-unfolding AllKept a b
-pays-three {t} {s} {l} {m} {n} {ls} x e g on at out h =
-    let few = le-leb (recordsSoFar t + (mostDetails + trailers)) mostRecords (omega (arith, h .few, enough-lines ls (g .rest))) in
-    let expected = expected-z (sym (second-moved x .dir) ∙ e) in
-    one-call (writer t at) (pay (three (a x) (b x) (back SegmentZ n))) out ls (two-given x (gives-more g expected gives-none)) h
-    (may-pay (x .one), (le-leb _ _ (few-payments (x .one)), (few, tt))) (lt-ltb _ _ (sum-fits (x .one)), tt) (g .rest) on
+  pays-so : Writes s ls → Writes t (done ++ ls)
+  unfolding AllKept
+  pays-so on at out h =
+      let (p, is) = paid-by in
+      let y : Gives (expectedInPayment t) t (recordsIn p) done s = subst⁻¹ (λ (ds : List Fields). Gives (expectedInPayment t) t ds done s) is (rw (append-nil gs, append-nil done) at (x .gives [] [] s gives-none)) in
+      let one : p .first ≡ x .first = head-of (sym (begins-with p) ∙ is) in
+      let long : length (recordsIn p) ≡ n = ap length is ∙ x .many in
+      let few = le-leb (recordsSoFar t + (length (recordsIn p) + trailers)) mostRecords (omega (arith, h .few, y .many, length-append done ls)) in
+      let fits : centsSoFar t + amountIn p < fileCents = rw one (x .sum-fits) in
+      one-call (writer t at) (pay p) out ls y h (x .may-pay, (le-leb _ _ (x .few), (few, tt))) (lt-ltb (centsSoFar t + amountIn p) fileCents fits, tt) (x .rest) on
 
 -- ---- line by line, from the last to the first
 
@@ -289,43 +303,58 @@ abbrev Rest : Phase → Checker → List (List ℕ) → Type 0
 Rest Start s ls = Writes s ls
 Rest Headed s ls = Writes s ls
 Rest Opened s ls = Writes s ls
-Rest Begun s ls = (t : Checker) (l : List ℕ) → First t l ls s → Writes t (l ∷ ls)
-Rest Paid s ls = (t : Checker) (l m : List ℕ) → Second t l m ls s → Writes t (l ∷ m ∷ ls)
+Rest (Within n) s ls = (t : Checker) (done : List (List ℕ)) → Part t n done ls s → Writes t (done ++ ls)
+Rest Paid s ls = (t : Checker) (done : List (List ℕ)) → Part t (length (payment (t .batch))) done ls s → Writes t (done ++ ls)
 Rest BehindZ s ls = Writes s ls
 Rest Closed s ls = Writes s ls
 Rest Ended s ls = Writes s ls
 
-begun-rest : {k : Batch} {r : Record} {s : Checker} (ls : List (List ℕ)) → Begins k r → Rest (after r) s ls → Rest Begun s ls
-begun-rest ls by-A on = on
-begun-rest ls by-J on = on
-
-paid-rest : {k : Batch} {r : Record} {s : Checker} (ls : List (List ℕ)) → GoesOn k r → Rest (after r) s ls → Rest Paid s ls
-paid-rest ls by-B on = on
-paid-rest ls by-J52 on = on
+-- behind the record at a position
+rest-behind : {n : ℕ} {r : Record} {s : Checker} (t : Checker) (done ls : List (List ℕ)) → Stands (t .batch) n r → Rest (after r) s ls → Part t (suc n) done ls s
+    → Writes t (done ++ ls)
+rest-behind {n} {r} {s} t done ls g on x = go (decLt (suc n) (length (payment (t .batch)))) (subst (λ (p : Phase). Rest p s ls) (row g .phase) on)
+  where
+    go : Dec (suc n < length (payment (t .batch))) → Rest (phaseBehind n (t .batch)) s ls → Writes t (done ++ ls)
+    go (yes h) on = (rw (lt-ltb (suc n) (length (payment (t .batch))) h) at on) t done x
+    go (no h) on =
+        let all : suc n ≡ length (payment (t .batch)) = omega (arith, stands-in g) in
+        (rw (le-ltb (suc n) (length (payment (t .batch))) (omega arith)) at on) t done (subst (λ (m : ℕ). Part t m done ls s) all x)
 
 module _ (s : Checker) (l : List ℕ) (ls : List (List ℕ)) where
-  pays : {r : Record} → Begins (s .batch) r → Goes r s l ls → Rest (after r) (next r s (recordIn l)) ls → Writes s (l ∷ ls)
-  pays {r} f g on = begun-rest ls f on s l (record { by = r; begins = f; read = g; is = refl })
+  begins : {r : Record} → Stands (s .batch) 0 r → turns (s .phase) .payment ≡ true → Goes r s l ls → Rest (after r) (next r s (recordIn l)) ls → Writes s (l ∷ ls)
+  begins f turn g on = rest-behind s (l ∷ []) ls f on (part-begun f g turn)
 
-  by-edge : {p : Phase} {r : Record} → Follows (s .dir) (s .batch) p r → Goes r s l ls → Rest (after r) (next r s (recordIn l)) ls → Rest p s (l ∷ ls)
-  by-edge heads g on = opens-file g on
-  by-edge first-batch g on = opens-batch g on
-  by-edge (first-payment f) g on = pays f g on
-  by-edge (goes-on {r = r} f) g on = λ t k x. paid-rest ls f on t k l (record { mid = s; one = x; by = r; goes-on = f; read = g; is = refl })
-  by-edge (adds-z e) g on = λ t k m x. pays-three x e g on
-  by-edge (pays-behind f) g on = λ t k m x. pays-two x (pays f g on)
-  by-edge (pays-behind-z f) g on = pays f g on
-  by-edge closes-paid g on = λ t k m x. pays-two x (closes-batch g on)
-  by-edge closes-behind-z g on = closes-batch g on
-  by-edge next-batch g on = opens-batch g on
-  by-edge ends g on = closes-file g on
+  -- the payment is made, and calls go on
+  made : s .phase ≡ Paid → Writes s (l ∷ ls) → Rest Paid s (l ∷ ls)
+  made q on t done x = pays-so x (omega arith) (omega (arith, brief (t .batch))) (rw q at (enough-lines (l ∷ ls) (x .rest))) on
+
+  by-edge : {p : Phase} {r : Record} → s .phase ≡ p → Follows (s .dir) (s .batch) p r → Goes r s l ls → Rest (after r) (next r s (recordIn l)) ls → Rest p s (l ∷ ls)
+  by-edge q heads g on = opens-file g on
+  by-edge q first-batch g on = opens-batch g on
+  by-edge q (pays first-payment f) g on = begins f (rw q) g on
+  by-edge {r = r} q (pays (goes-on {n}) f) g on = λ t done x.
+      let there = subst (λ (b : Batch). Stands b n r) (x .same-batch) f in
+      let m = stands-moves s (recordIn l) f in
+      let moved : Moved s (next r s (recordIn l)) (after r) = rw (row f .phase) m in
+      subst (Writes t) (append-assoc done (l ∷ []) ls) (rest-behind t (done ++ l ∷ []) ls there on (part-more x g (expected-own (t .dir) there) moved))
+  by-edge q (adds-z e) g on = λ t done x.
+      let z = expected-last (t .dir) (t .batch) (x .paid) (sym (x .same-dir) ∙ e) in
+      let moved : Moved s (next SegmentZ s (recordIn l)) BehindZ = record { phase = refl; dir = refl; batch = refl } in
+      subst (Writes t) (append-assoc done (l ∷ []) ls)
+      (pays-so (part-more x g z moved) (omega arith) (omega (arith, brief (t .batch))) (enough-lines ls (g .rest)) on)
+  by-edge q (pays pays-behind f) g on = made q (begins f (rw q) g on)
+  by-edge q (pays pays-behind-z f) g on = begins f (rw q) g on
+  by-edge q closes-paid g on = made q (closes-batch g on)
+  by-edge q closes-behind-z g on = closes-batch g on
+  by-edge q next-batch g on = opens-batch g on
+  by-edge q ends g on = closes-file g on
 
 nothing-left : (p : Phase) (s : Checker) → s .phase ≡ p → ended p ≡ true → Rest p s []
 unfolding recordsGiven recordsRead lentOn written left
 nothing-left Start s q e = never e
 nothing-left Headed s q e = never e
 nothing-left Opened s q e = never e
-nothing-left Begun s q e = never e
+nothing-left (Within n) s q e = never e
 nothing-left Paid s q e = never e
 nothing-left BehindZ s q e = never e
 nothing-left Closed s q e = never e
@@ -335,7 +364,7 @@ rewritten : (ls : List (List ℕ)) {s : Checker} → Ends s ls → Rest (s .phas
 rewritten [] {s} e = nothing-left (s .phase) s refl (at-last e)
 rewritten (l ∷ ls) {s} e =
     let (r, g) = goes e in
-    by-edge s l ls (g .follows) g (subst (λ (p : Phase). Rest p (next r s (recordIn l)) ls) (next-phase r s (recordIn l)) (rewritten ls (g .rest)))
+    by-edge s l ls refl (g .follows) g (subst (λ (p : Phase). Rest p (next r s (recordIn l)) ls) (next-phase r s (recordIn l)) (rewritten ls (g .rest)))
 
 -- ---- a file
 

@@ -19,7 +19,9 @@ use Rattle.boleto.specs.Strings.{barcodeDigits}
 use Rattle.boleto.specs.Rules.{barcodeRules}
 use Rattle.boleto.specs.laws.Accepted.{of-barcode}
 use Rattle.boleto.specs.laws.Changes.{barcode-change}
-use Rattle.layout.specs.Table.{Field, part, fieldsOf, recordBytes, barcodeField, nominalField, discountField, fineField, boletoAmount}
+use Rattle.layout.specs.Field.{Field, part}
+use Rattle.layout.specs.Table.{fieldsOf, recordBytes, barcodeField, nominalField, discountField, fineField}
+use Rattle.layout.specs.Records.{boletoAmount}
 use Rattle.layout.specs.laws.Bytes.{length-places}
 use Rattle.layout.specs.declared.Direction.{Direction}
 use Rattle.layout.specs.declared.Record.the-variants.{SegmentJ}

@@ -9,7 +9,9 @@ use lib.ListN.{length, getD}
 use Rattle.answer.specs.Rules.{AllKept}
 use Rattle.answer.specs.laws.Order.{kept-front, kept-behind}
 use Rattle.digits.specs.Digits.{digitByte, place}
-use Rattle.layout.specs.Table.{Kind, Field, typeOf, fieldsOf, none, segmentPlace}
+use Rattle.layout.specs.Field.{Kind, Field, none}
+use Rattle.layout.specs.Records.{typeOf}
+use Rattle.layout.specs.Table.{fieldsOf, segmentPlace}
 use Rattle.layout.specs.Kinds.{aPart, means, run, blank, text}
 use Rattle.layout.specs.Record.{fieldRules, rulesOf}
 use Rattle.layout.specs.laws.Tiling.{All, at, of-member, Inside, insides}

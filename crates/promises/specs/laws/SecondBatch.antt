@@ -10,9 +10,9 @@ use lib.Seq.{take-at, take-set-le, drop-set-add, set-append-left}
 use Rattle.layout.specs.declared.Direction.{Direction}
 use Rattle.checker.specs.Totals.{add}
 use Rattle.checker.specs.Line.{lineBytes}
-use Rattle.checker.specs.File.{linesOf}
+use Rattle.files.specs.File.{linesOf}
 use Rattle.checker.specs.declared.totals.Totals.{Totals}
-use Rattle.checker.specs.declared.file.Outcome.{Outcome}
+use Rattle.files.specs.declared.Outcome.{Outcome}
 use Rattle.promises.specs.Grammar.{RightBatch, Batches, no-batches, batch, Meets}
 use Rattle.promises.specs.Guarded.{GuardedIn, changed}
 use Rattle.promises.specs.WrongOnes.{FirstBatch, FirstBatchOnly}

@@ -12,10 +12,10 @@ use Rattle.layout.specs.declared.Record.the-variants.{FileHeader}
 use Rattle.checker.specs.Line.{lineBytes}
 use Rattle.checker.specs.Calls.{left}
 use Rattle.checker.specs.Machine.{sound}
-use Rattle.checker.specs.File.{cut, steps, endOf, finish, checkFile}
+use Rattle.files.specs.File.{cut, steps, endOf, finish, checkFile}
 use Rattle.checker.specs.declared.totals.Totals.{Totals}
-use Rattle.checker.specs.declared.file.Outcome.{Outcome}
-use Rattle.checker.specs.declared.file.Outcome.the-variants.{Accepted, Refused}
+use Rattle.files.specs.declared.Outcome.{Outcome}
+use Rattle.files.specs.declared.Outcome.the-variants.{Accepted, Refused}
 use Rattle.promises.specs.Grammar.{Meets}
 use Rattle.promises.specs.Guarded.{first-eight, lineAt, GuardedIn, changed}
 use Rattle.promises.specs.Demands.{Demand2, Demand3}

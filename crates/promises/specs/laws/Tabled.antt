@@ -18,27 +18,27 @@ use Rattle.digits.specs.laws.Strings.{leading-le}
 use Rattle.digits.specs.laws.Tests.{both}
 use Rattle.boleto.specs.Strings.{barcodeDigits, lineDigits}
 use Rattle.boleto.specs.Rules as boleto
-use Rattle.layout.specs.Table.{isOneOf, marks, fieldsOf, recordBytes, all, fieldsOfEach}
+use Rattle.layout.specs.Records.{isOneOf}
+use Rattle.layout.specs.Table.{marks, fieldsOf, recordBytes, all, fieldsOfEach}
 use Rattle.layout.specs.Record.{rulesOf, byteRule, clean, recordRules}
 use Rattle.layout.specs.laws.Bytes.{clean-le}
 use Rattle.layout.specs.declared.Direction.{Direction}
 use Rattle.layout.specs.declared.Direction.the-variants.{Remittance, Return}
 use Rattle.layout.specs.declared.Record.{Record}
-use Rattle.layout.specs.declared.Record.the-variants.{FileHeader, BatchHeader, SegmentA, SegmentB, SegmentJ, SegmentJ52, SegmentZ, BatchTrailer, FileTrailer}
+use Rattle.layout.specs.laws.Records.{each}
 use Rattle.layout.specs.declared.pairs.Batch.{Batch}
-use Rattle.checker.specs.Line.{within, boletoRules, houseRules, detailRules, rulesAs, recordIn, lineIs, readingRules, typeRules, lineRules, rulesOfLine}
+use Rattle.checker.specs.Line.{within, boletoRules, houseRules, rulesOfType, rulesAs, recordIn, lineIs, readingRules, typeRules, lineRules, rulesOfLine}
 use Rattle.checker.specs.Machine.{state, lineOf}
 use Rattle.checker.specs.declared.order.Reading.{Reading}
 use Rattle.checker.specs.declared.order.Reading.the-variants.{Line, Nothing}
-use Rattle.checker.specs.declared.order.Phase.{Phase}
+use Rattle.layout.specs.declared.shapes.Phase.{Phase}
 use Rattle.checker.specs.declared.totals.Totals.{Totals}
 use Rattle.checker.specs.declared.Checker.{Checker}
 use Rattle.writer.specs.Given.{Call, openFile, openBatch, pay, closeBatch, closeFile, recordsOf}
-use Rattle.writer.specs.Filling.{bytesOf}
-use Rattle.writer.specs.Refusals.{turnLimits, placedIn, lastRules, givenRules, nextBy, placedRules, callRules}
-use Rattle.writer.specs.laws.Placed.{placed-rules}
-use Rattle.writer.specs.inner.Placed.{expectedIn, expectedNow, allGiven}
-use Rattle.writer.specs.Calls.{Whole, AllWhole, no-more, and-then}
+use Rattle.filling.specs.Filling.{bytesOf}
+use Rattle.writer.specs.Refusals.{turnLimits, expectedIn, expectedNow, lastRules, givenRules, nextBy, allGiven, callRules}
+use Rattle.fields.specs.Values.{Whole}
+use Rattle.writer.specs.Calls.{AllWhole, no-more, and-then}
 use Rattle.writer.specs.laws.Lines.{bytes-length}
 use Rattle.fields.specs.declared.Fields.{Fields}
 use Rattle.writer.specs.declared.Writer.{Writer}
@@ -92,29 +92,13 @@ digits bs short others =
     (λ q. (refl, first-fault (leading bs + 1) (leading bs) lineDigits bs refl (leading-le bs) q short))
     (λ q. others)
 
--- ---- a test at every record
-
--- what holds at each of the nine holds at any
-each : (test : Record → Bool)
-    → T (test FileHeader) × T (test BatchHeader) × T (test SegmentA) × T (test SegmentB) × T (test SegmentJ) × T (test SegmentJ52)
-    × T (test SegmentZ) × T (test BatchTrailer) × T (test FileTrailer) → (r : Record) → T (test r)
-each test t FileHeader = t .0
-each test t BatchHeader = t .1
-each test t SegmentA = t .2
-each test t SegmentB = t .3
-each test t SegmentJ = t .4
-each test t SegmentJ52 = t .5
-each test t SegmentZ = t .6
-each test t BatchTrailer = t .7
-each test t FileTrailer = t .8
-
 -- ---- one record
 
 -- its type, its segment and all its fields
 marked : (r : Record) (d : Direction) (rec : List ℕ) → T (allAlone (rulesOf (marks r) d rec ++ rulesOf (fieldsOf r) d rec))
 unfolding table all fieldsOfEach rulesOf fieldsOf
-marked r Remittance rec = each (λ r. allAlone (rulesOf (marks r) Remittance rec ++ rulesOf (fieldsOf r) Remittance rec)) (tt, tt, tt, tt, tt, tt, tt, tt, tt) r
-marked r Return rec = each (λ r. allAlone (rulesOf (marks r) Return rec ++ rulesOf (fieldsOf r) Return rec)) (tt, tt, tt, tt, tt, tt, tt, tt, tt) r
+marked r Remittance rec = each (λ r. allAlone (rulesOf (marks r) Remittance rec ++ rulesOf (fieldsOf r) Remittance rec)) tt r
+marked r Return rec = each (λ r. allAlone (rulesOf (marks r) Return rec ++ rulesOf (fieldsOf r) Return rec)) tt r
 
 -- the rules of one record alone
 pub record-rules : (r : Record) (d : Direction) (rec : List ℕ) → Only Alone (recordRules r d rec)
@@ -128,9 +112,9 @@ record-rules r d rec =
 
 -- behind the type, by what the line is read as, in every state
 read : (r : Record) (p : Phase) (d : Direction) (b : Batch) (n : ℕ) (x y : Totals) (rec : List ℕ) → T (allAlone (rulesAs r (state p d b n x y) rec))
-unfolding table all fieldsOfEach rulesOf fieldsOf within boletoRules detailRules rulesAs
-read r p Remittance b n x y rec = each (λ r. allAlone (rulesAs r (state p Remittance b n x y) rec)) (tt, tt, tt, tt, tt, tt, tt, tt, tt) r
-read r p Return b n x y rec = each (λ r. allAlone (rulesAs r (state p Return b n x y) rec)) (tt, tt, tt, tt, tt, tt, tt, tt, tt) r
+unfolding table all fieldsOfEach rulesOf fieldsOf within boletoRules rulesOfType rulesAs
+read r p Remittance b n x y rec = each (λ r. allAlone (rulesAs r (state p Remittance b n x y) rec)) tt r
+read r p Return b n x y rec = each (λ r. allAlone (rulesAs r (state p Return b n x y) rec)) tt r
 
 -- whatever it is read as
 reading : (d : Reading) (s : Checker) (rec : List ℕ) → T (allAlone (readingRules d s rec))
@@ -168,8 +152,8 @@ digit-line-rules line = head-rules lineDigits line _ (lit≤ tt) tt
 -- all fields of a record, and what the house asks
 given : (r : Record) (d : Direction) (rec : List ℕ) → T (allAlone (rulesOf (fieldsOf r) d rec ++ houseRules r rec))
 unfolding table all fieldsOfEach rulesOf fieldsOf boletoRules
-given r Remittance rec = each (λ r. allAlone (rulesOf (fieldsOf r) Remittance rec ++ houseRules r rec)) (tt, tt, tt, tt, tt, tt, tt, tt, tt) r
-given r Return rec = each (λ r. allAlone (rulesOf (fieldsOf r) Return rec ++ houseRules r rec)) (tt, tt, tt, tt, tt, tt, tt, tt, tt) r
+given r Remittance rec = each (λ r. allAlone (rulesOf (fieldsOf r) Remittance rec ++ houseRules r rec)) tt r
+given r Return rec = each (λ r. allAlone (rulesOf (fieldsOf r) Return rec ++ houseRules r rec)) tt r
 
 -- the rules of a record that is given, and of all of a call's
 given-rules : (expected : Bool) (s : Checker) (g : Fields) → Whole g → Only Alone (givenRules expected (g .which) (s .dir) (bytesOf s g))
@@ -197,6 +181,6 @@ unfolding callRules table
 call-rules w c out whole =
     let s = w .checker in
     let t = around w c out in
-    let each : Only InTable (placedRules s (placedIn c s)) = rw (placed-rules c s) (all-given (expectedIn c s) s whole) in
+    let each = all-given (expectedIn c s) s whole in
     join (more tt (on-line (lineOf s) (turnLimits c s) (tested _ (t .0))))
     (join each (on-line (lineOf s) (lastRules c w out) (tested _ (t .1))))

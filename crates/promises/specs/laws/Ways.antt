@@ -16,17 +16,18 @@ use Rattle.boleto.specs.Guarded as boleto
 use Rattle.layout.specs.Kinds.{same}
 use Rattle.layout.specs.Pairs.{batchOf}
 use Rattle.layout.specs.Record.{rulesOf, clean}
-use Rattle.layout.specs.Table.{Kind, Field, none, fieldsOf}
+use Rattle.layout.specs.Field.{Kind, Field, none}
+use Rattle.layout.specs.Table.{fieldsOf}
 use Rattle.layout.specs.declared.Direction.{Direction}
 use Rattle.layout.specs.declared.Record.{Record}
 use Rattle.layout.specs.declared.Record.the-variants.{BatchHeader, SegmentA, SegmentJ, SegmentJ52, SegmentZ, BatchTrailer, FileTrailer}
 use Rattle.checker.specs.Totals.{add}
-use Rattle.checker.specs.Line.{lineBytes, recordIn, generalPlace, within, boletoRules, detailRules, rulesAs, typeRules, lineRules, rulesOfLine}
+use Rattle.checker.specs.Line.{lineBytes, recordIn, generalPlace, within, boletoRules, rulesOfType, rulesAs, typeRules, lineRules, rulesOfLine}
 use Rattle.checker.specs.Machine.{directionOf, sound, stepOf}
-use Rattle.checker.specs.File.{cut, checkFile}
+use Rattle.files.specs.File.{cut, checkFile}
 use Rattle.checker.specs.Calls.{left}
 use Rattle.checker.specs.declared.totals.Totals.{Totals}
-use Rattle.checker.specs.declared.file.Outcome.the-variants.{Accepted}
+use Rattle.files.specs.declared.Outcome.the-variants.{Accepted}
 use Rattle.promises.specs.Guarded.{Fixed, Guarded, lineAt, ReadAt, GuardedIn}
 use Rattle.promises.specs.Guarded as guarded
 use Rattle.promises.specs.laws.AcceptedFiles.{creditFile, credit-file, returnFile, return-file}
@@ -98,7 +99,7 @@ check-of-9 = refl
 
 -- the table: for each way a file, a line, a place and the record that the line is read as
 pub every-way : (way : Way) → Witness way
-unfolding firstBroken leading weighed counts lift checkDigit numberOf exists dateFits timeFits daysOfYears dayNumber dueDays folded factorOf same batchOf rulesOf clean fieldsOf cut within boletoRules detailRules rulesAs typeRules lineRules rulesOfLine sound stepOf add left
+unfolding firstBroken leading weighed counts lift checkDigit numberOf exists dateFits timeFits daysOfYears dayNumber dueDays folded factorOf same batchOf rulesOf clean fieldsOf cut within boletoRules rulesOfType rulesAs typeRules lineRules rulesOfLine sound stepOf add left
 every-way line-end = in-file returnFile return-file 13 242 SegmentZ refl (lit≤ tt) (guarded.line-end (lit≤ tt, lit≤ tt))
 every-way first-eight = in-file returnFile return-file 12 1 SegmentJ52 refl (lit≤ tt) (guarded.first-eight (lit≤ tt, lit≤ tt))
 every-way detail = in-file returnFile return-file 4 14 SegmentZ refl (lit≤ tt) (guarded.detail refl (lit≤ tt, lit≤ tt))

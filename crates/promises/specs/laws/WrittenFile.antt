@@ -23,8 +23,8 @@ use Rattle.checker.specs.Totals.{add}
 use Rattle.checker.specs.Line.{lineBytes, boletoRules}
 use Rattle.checker.specs.Machine.{sound}
 use Rattle.writer.specs.Given.{Call, openFile, openBatch, pay, closeBatch, closeFile, two}
-use Rattle.writer.specs.Filling.{filled}
-use Rattle.writer.specs.Refusals.{placedRules, givenRules, held, callRules}
+use Rattle.filling.specs.Filling.{filled}
+use Rattle.writer.specs.Refusals.{allGiven, givenRules, held, callRules}
 use Rattle.writer.specs.Outcome.{newWriter, linesFor, behindAll, answerOf}
 use Rattle.writer.specs.Calls.{memory}
 use Rattle.promises.specs.Examples.{bytes}
@@ -83,5 +83,5 @@ creditCalls =
 
 -- six lines, in memory for six
 pub credit-written : memory newWriter creditCalls (replicate (6 * lineBytes) 0) ≡ creditFile
-unfolding entered before indexOf firstBroken over leading weighed numberOf lastDigits numeral exists dateFits timeFits same batchOf rulesOf clean fieldsOf joined recordOf add boletoRules sound filled givenRules placedRules held callRules linesFor behindAll answerOf memory flatten
+unfolding entered before indexOf firstBroken over leading weighed numberOf lastDigits numeral exists dateFits timeFits same batchOf rulesOf clean fieldsOf joined recordOf add boletoRules sound filled givenRules allGiven held callRules linesFor behindAll answerOf memory flatten
 credit-written = refl

@@ -14,7 +14,8 @@ use Rattle.boleto.specs.Strings.{barcodeDigits, lineDigits, digitLineOf, barcod
 use Rattle.boleto.specs.Rules.{headRules, barcodeRules, digitLineRules}
 use Rattle.boleto.specs.laws.Conversions.{barcode-there-and-back, barcode-calls, line-calls}
 use Rattle.layout.specs.Kinds.{run}
-use Rattle.layout.specs.Table.{part, barcodeField}
+use Rattle.layout.specs.Field.{part}
+use Rattle.layout.specs.Table.{barcodeField}
 use Rattle.checker.specs.Line.{recordIn}
 use Rattle.promises.specs.Guarded.{lineAt}
 use Rattle.promises.specs.Demands.{ConverterDemand2}

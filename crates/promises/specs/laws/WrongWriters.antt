@@ -26,10 +26,11 @@ use Rattle.checker.specs.Totals.{add}
 use Rattle.checker.specs.Line.{lineBytes, recordIn, boletoRules}
 use Rattle.checker.specs.Machine.{sound}
 use Rattle.writer.specs.Given.{Call, openFile, openBatch, pay, two, recordsOf}
-use Rattle.writer.specs.Filling.{filled}
-use Rattle.writer.specs.Refusals.{placedRules, held, givenRules, callRules}
+use Rattle.filling.specs.Filling.{filled}
+use Rattle.writer.specs.Refusals.{allGiven, held, givenRules, callRules}
 use Rattle.writer.specs.Outcome.{newWriter, linesFor, behindAll, stateAfter, outputAfter, answerOf, Wrote}
-use Rattle.writer.specs.Calls.{Whole, AllWhole, no-more, and-then, WholeCalls, no-call, and-call, stateBehind, written, fileOf, lent, memoryBehind, lentOn, memory}
+use Rattle.fields.specs.Values.{Whole}
+use Rattle.writer.specs.Calls.{AllWhole, no-more, and-then, WholeCalls, no-call, and-call, stateBehind, written, fileOf, lent, memoryBehind, lentOn, memory}
 use Rattle.writer.specs.laws.Memory.{cursor-is, memory-is, memory-behind}
 use Rattle.writer.specs.laws.Sequences.{file-accepted}
 use Rattle.writer.specs.declared.given.Payment.{Payment}
@@ -147,7 +148,7 @@ record Computed : Type 0 where
   twice-fifth : getD (fileOf (lentFirst paidTwice (fresh 6))) (4 * lineBytes) 0 ≡ digitByte 0
 
 computed : Computed
-unfolding flatten rightAnswers before indexOf written linesFor behindAll lentOn answerOf callRules held placedRules givenRules fieldsIn numbersIn joined recordOf filled numeral lastDigits firstBroken leading weighed numberOf exists dateFits timeFits same batchOf rulesOf clean fieldsOf boletoRules sound add
+unfolding flatten rightAnswers before indexOf written linesFor behindAll lentOn answerOf callRules held allGiven givenRules fieldsIn numbersIn joined recordOf filled numeral lastDigits firstBroken leading weighed numberOf exists dateFits timeFits same batchOf rulesOf clean fieldsOf boletoRules sound add
 computed = record { answers = refl; opened-long = refl; opened-first = refl; paid-long = refl; twice-long = refl; twice-fifth = refl }
 
 -- ---- the wrong writers

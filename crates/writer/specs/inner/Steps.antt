@@ -3,10 +3,12 @@ use mathlib.Core.Path.{_≡_}
 use mathlib.Core.Bool.{Bool, true, cond}
 use mathlib.Core.List.{List, [], _∷_, _++_}
 use Prim.Native.Nat.{ℕ, _+_, _≤_}
+use lib.ListN.{length, getD, take, drop}
 use Rattle.answer.specs.Rules.{Rule, rulesOnLine, refusedAs, firstBroken, andThen, onLine}
 use Rattle.answer.specs.Output.{room}
 use Rattle.answer.specs.declared.Answer.{Answer}
 use Rattle.answer.specs.declared.Answer.the-variants.{Accepted}
+use Rattle.layout.specs.Records.{isOneOf}
 use Rattle.layout.specs.Table.{segmentPlace}
 use Rattle.layout.specs.Record.{byteRule}
 use Rattle.layout.specs.declared.Direction.{Direction}
@@ -15,22 +17,22 @@ use Rattle.layout.specs.declared.pairs.Batch.{Batch}
 use Rattle.fields.specs.Values.{recordOf, madeOf}
 use Rattle.fields.specs.declared.Fields.{Fields}
 use Rattle.fields.specs.declared.writing.Made.{Made}
-use Rattle.checker.specs.Order.{first, second}
+use Rattle.checker.specs.Order.{payment}
 use Rattle.checker.specs.Line.{mostPayments, lineFrom}
-use Rattle.checker.specs.Machine.{lineOf, sound}
+use Rattle.checker.specs.Machine.{lineOf, sound, mostDetails}
 use Rattle.checker.specs.laws.Edges.{Follows}
 use Rattle.checker.specs.laws.Details.{Limit}
 use Rattle.checker.specs.declared.Checker.{Checker}
-use Rattle.writer.specs.Given.{thirdIn, recordsIn}
-use Rattle.writer.specs.Filling.{filled}
-use Rattle.writer.specs.Refusals.{turnRule, turns, sumRule, zIn, givenOnLine, nextBy, held}
-use Rattle.writer.specs.inner.Placed.{expectedInPayment, allGiven}
+use Rattle.writer.specs.Given.{recordsIn}
+use Rattle.filling.specs.Filling.{filled}
+use Rattle.writer.specs.Refusals.{turnRule, turns, sumRule, positions, expectedInPayment, expectedNow, givenOnLine, nextBy, allGiven, held}
 use Rattle.writer.specs.Outcome.{linesFor, behindAll, cursorBehind, stateAfter, outputAfter}
 use Rattle.writer.specs.declared.given.Payment.{Payment}
 use Rattle.writer.specs.declared.records.Tried.{Tried}
 use Rattle.writer.specs.declared.payments.TriedPayment.{TriedPayment}
 use Rattle.writer.specs.declared.Writer.{Writer}
 use Rattle.writer.specs.declared.Written.{Written}
+use Rattle.checker.specs.Totals.{paymentCount}
 
 -- 51, and then the limits, on the line that is next
 abbrev pub turnOf : Checker → Bool → Answer → Answer
@@ -57,40 +59,31 @@ pub record Tries (expected : Bool) (s : Checker) (g : Fields) (t : Tried) : Type
 abbrev pub lineWith : Made → List ℕ
 lineWith m = lineFrom (recordOf (m .fields .which) (m .fields))
 
--- the lines of a payment's
-abbrev pub linesThird : Payment → Made → List (List ℕ)
-linesThird p c = cond (p .triple) (lineWith c ∷ []) []
-
-abbrev pub linesWith : Payment → Made → Made → Made → List (List ℕ)
-linesWith p a b c = lineWith a ∷ lineWith b ∷ linesThird p c
+-- the lines of records that are made
+abbrev pub linesWith : List Made → List (List ℕ)
+linesWith [] = []
+linesWith (m ∷ ms) = lineWith m ∷ linesWith ms
 
 -- all of them are right
-pub record AllRight (p : Payment) (a b c : Made) : Type 0 where
-  pub first : a .answer ≡ Accepted
-  pub second : b .answer ≡ Accepted
-  pub third : p .triple ≡ true → c .answer ≡ Accepted
+pub data AllRight : List Made → Type 0 where
+  none-made : AllRight []
+  one-more : {m : Made} {ms : List Made} → m .answer ≡ Accepted → AllRight ms → AllRight (m ∷ ms)
 
--- the third record of a payment, if there is one; accepted, the state behind it and its line
-pub record TriesThird (s : Checker) (d : Direction) (p : Payment) (t : Tried) : Type 0 where
-  pub answered : t .answer ≡ firstBroken (allGiven (zIn d ∷ []) s (thirdIn p))
-  pub moved : t .answer ≡ Accepted → t .checker ≡ behindAll s (thirdIn p)
-  pub right : t .answer ≡ Accepted → p .triple ≡ true → t .made .answer ≡ Accepted
-  pub made : linesThird p (t .made) ≡ linesFor s (thirdIn p)
+-- the record of a payment at a position, from 0 on
+abbrev pub nthIn : ℕ → Payment → Fields
+nthIn k p = getD (p .first ∷ p .second ∷ p .third ∷ []) k (p .third)
 
--- the second and the third; the first is made already
-pub record TriesLater (s : Checker) (d : Direction) (b : Batch) (p : Payment) (m : Made) (t : TriedPayment) : Type 0 where
-  pub answered : t .answer ≡ firstBroken (allGiven (second b ∷ zIn d ∷ []) s (p .second ∷ thirdIn p))
-  pub moved : t .answer ≡ Accepted → t .checker ≡ behindAll s (p .second ∷ thirdIn p)
-  pub kept : t .first ≡ m
-  pub right : t .answer ≡ Accepted → m .answer ≡ Accepted → AllRight p (t .first) (t .second) (t .third)
-  pub made : t .answer ≡ Accepted → lineWith (t .second) ∷ linesThird p (t .third) ≡ linesFor s (p .second ∷ thirdIn p)
+-- and whether it is the one that is expected there
+abbrev pub expectedAt : ℕ → Direction → Batch → Record → Bool
+expectedAt k d b r = isOneOf r (expectedNow (drop k (positions d (payment b))))
 
--- the same of a payment's records; accepted, what is behind them all
+-- a payment's records that were tried; accepted, what is behind them all
 pub record TriesPayment (s : Checker) (p : Payment) (t : TriedPayment) : Type 0 where
   pub answered : t .answer ≡ firstBroken (allGiven (expectedInPayment s) s (recordsIn p))
   pub moved : t .answer ≡ Accepted → t .checker ≡ behindAll s (recordsIn p)
-  pub right : t .answer ≡ Accepted → AllRight p (t .first) (t .second) (t .third)
-  pub made : t .answer ≡ Accepted → linesWith p (t .first) (t .second) (t .third) ≡ linesFor s (recordsIn p)
+  pub right : t .answer ≡ Accepted → AllRight (take (length (recordsIn p)) (t .made))
+  pub made : t .answer ≡ Accepted → linesWith (take (length (recordsIn p)) (t .made)) ≡ linesFor s (recordsIn p)
+  pub places : length (t .made) ≡ mostDetails
 
 -- a call's records, behind its turn
 pub record WroteIn (turn : Answer) (rules : List Rule) (w : Writer) (gs : List Fields) (out after : List ℕ) (r : Written) : Type 0 where
@@ -112,4 +105,4 @@ paymentRules w p out =
 pub record MayPay (s : Checker) : Type 0 where
   pub is-held : held s ≡ true
   pub in-turn : turns (s .phase) .payment ≡ true
-  pub few : s .current .payments + 1 ≤ mostPayments
+  pub few : paymentCount (s .current) + 1 ≤ mostPayments

@@ -9,7 +9,8 @@ use Rattle.answer.specs.Rules.{Rule, firstBroken, AllKept, rulesOnLine}
 use Rattle.answer.specs.laws.Order.{none-kept, more-kept, kept-accepted, accepted-kept, kept-front, kept-behind, kept-join}
 use Rattle.answer.specs.declared.LineNo.{LineNo}
 use Rattle.answer.specs.declared.Answer.the-variants.{Accepted}
-use Rattle.layout.specs.Table.{fieldsOf, isOneOf}
+use Rattle.layout.specs.Table.{fieldsOf}
+use Rattle.layout.specs.Records.{isOneOf}
 use Rattle.layout.specs.Record.{rulesOf, allPrintable}
 use Rattle.layout.specs.declared.Record.{Record}
 use Rattle.fields.specs.declared.Fields.{Fields}
@@ -17,12 +18,11 @@ use Rattle.checker.specs.Line.{houseRules}
 use Rattle.checker.specs.Machine.{lineOf}
 use Rattle.checker.specs.declared.Checker.{Checker}
 use Rattle.writer.specs.Given.{Call, recordsOf}
-use Rattle.writer.specs.Filling.{bytesOf}
-use Rattle.writer.specs.Refusals.{turnLimits, placedIn, givenRules, givenOnLine, nextBy, placedRules, sumRules, lastRules, held, callRules}
-use Rattle.writer.specs.inner.Placed.{expectedIn, expectedNow, allGiven}
+use Rattle.filling.specs.Filling.{bytesOf}
+use Rattle.writer.specs.Refusals.{turnLimits, expectedIn, expectedNow, givenRules, givenOnLine, nextBy, allGiven, sumRules, lastRules, held, callRules}
 use Rattle.writer.specs.Outcome.{answerOf, cursorBehind}
-use Rattle.writer.specs.Calls.{Whole, AllWhole, no-more, and-then}
-use Rattle.writer.specs.laws.Placed.{placed-rules}
+use Rattle.fields.specs.Values.{Whole}
+use Rattle.writer.specs.Calls.{AllWhole, no-more, and-then}
 use Rattle.writer.specs.declared.Writer.{Writer}
 
 -- every rule of the call, as facts
@@ -48,7 +48,7 @@ pub kept : (w : Writer) (c : Call) (out : List ℕ) → answerOf w c out ≡ Acc
 unfolding AllKept answerOf callRules
 kept w c out e =
     let s = w .checker in
-    let all = rw (placed-rules c s) at (accepted-kept (callRules w c out) e) in
+    let all = accepted-kept (callRules w c out) e in
     let limits = rulesOnLine (lineOf s) (turnLimits c s) in
     let records = allGiven (expectedIn c s) s (recordsOf c) in
     let last = rulesOnLine (lineOf s) (lastRules c w out) in
@@ -67,11 +67,10 @@ pub kept-call : (w : Writer) (c : Call) (out : List ℕ) → Kept w c out → an
 unfolding answerOf callRules
 kept-call w c out k =
     let s = w .checker in
-    let records : AllKept (placedRules s (placedIn c s)) = rw (placed-rules c s) (k .records) in
     let last = kept-join (sumRules c s) _ (k .sums) (more-kept _ _ (le-leb _ _ (k .room)) none-kept) in
     kept-accepted _
     (more-kept _ _ (k .is-held)
-    (kept-join _ _ (on-line (lineOf s) (turnLimits c s) (k .first)) (kept-join _ _ records (on-line (lineOf s) (lastRules c w out) last))))
+    (kept-join _ _ (on-line (lineOf s) (turnLimits c s) (k .first)) (kept-join _ _ (k .records) (on-line (lineOf s) (lastRules c w out) last))))
 
 -- ---- the records
 

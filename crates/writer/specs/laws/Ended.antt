@@ -1,62 +1,63 @@
 -- The phase that an accepted call leaves: closing the file ends it, and behind that every call is refused. Assumes nothing.
-use mathlib.Core.Path.{_≡_, sym, ap, _∙_}
-use mathlib.Core.Bool.{Bool, true, false, cond}
-use mathlib.Core.List.{List, [], _∷_}
-use Prim.Native.Nat.{ℕ}
+use mathlib.Core.Path.{_≡_, refl, sym, ap, subst, _∙_}
+use mathlib.Core.Bool.{true}
+use mathlib.Core.List.{List}
+use mathlib.Core.Logic.{_⊎_, inl, inr, ⊎-elim}
+use Prim.Native.Nat.{ℕ, zero, suc, _≤_, _<_}
+use native.Mathlib.Decide.{decLt}
+use native.Mathlib.Omega.{arith}
+use borrow.Author.Tests.{lt-ltb, le-ltb}
+use lib.ListN.{length}
 use Rattle.answer.specs.Rules.{AllKept, firstBroken, refusal}
 use Rattle.answer.specs.laws.Order.{never}
 use Rattle.answer.specs.declared.Answer.the-variants.{Accepted, Refused}
 use Rattle.fields.specs.declared.Fields.{Fields}
-use Rattle.checker.specs.Order.{second, after, ended}
+use Rattle.checker.specs.Order.{payment, ended}
 use Rattle.checker.specs.Machine.{lineOf}
-use Rattle.checker.specs.declared.order.Phase.{Phase}
-use Rattle.checker.specs.declared.order.Phase.the-variants.{Headed, Opened, Paid, BehindZ, Closed, Ended}
+use Rattle.layout.specs.declared.shapes.Phase.{Phase}
+use Rattle.layout.specs.declared.shapes.Phase.the-variants.{Headed, Opened, Paid, BehindZ, Closed, Ended}
 use Rattle.checker.specs.declared.Checker.{Checker}
-use Rattle.checker.specs.laws.Edges.{goes-on-moves}
-use Rattle.checker.specs.laws.Meaning.{next-phase}
-use Rattle.writer.specs.Given.{Call, openFile, openBatch, pay, closeBatch, closeFile, thirdIn, recordsIn}
-use Rattle.writer.specs.Filling.{bytesOf}
-use Rattle.writer.specs.Refusals.{zIn, nextBy, held, callRules}
-use Rattle.writer.specs.inner.Placed.{expectedInPayment, allGiven}
+use Rattle.writer.specs.Given.{Call, openFile, openBatch, pay, closeBatch, closeFile, recordsIn}
+use Rattle.writer.specs.Refusals.{expectedInPayment, allGiven, held, callRules}
+use Rattle.writer.specs.inner.Steps.{MayPay}
 use Rattle.writer.specs.Outcome.{newWriter, behindAll, answerOf}
 use Rattle.writer.specs.Calls.{Lent, WholeCalls, stateBehind, left, lent}
 use Rattle.writer.specs.declared.given.Payment.{Payment}
 use Rattle.writer.specs.declared.Writer.{Writer}
-use Rattle.writer.specs.laws.Expected.{second-expected, z-expected}
-use Rattle.writer.specs.laws.Accepted.{kept, first-expected, later-kept}
+use Rattle.writer.specs.laws.Given.{enough, paid-in-full}
+use Rattle.writer.specs.laws.Paying.{phaseAt, Inside, before, inside, inside-all}
+use Rattle.writer.specs.laws.TakesCall.{pay-may}
+use Rattle.writer.specs.laws.Accepted.{kept}
 use Rattle.writer.specs.laws.Sequences.{never-guarded}
 
-abbrev pub phaseBy : Call → Phase
-phaseBy (openFile v) = Headed
-phaseBy (openBatch v) = Opened
-phaseBy (pay p) = cond (p .triple) BehindZ Paid
-phaseBy (closeBatch v) = Closed
-phaseBy (closeFile v) = Ended
+-- behind the last record of a payment of at least one, by position
+abbrev phaseBehindAll : ℕ → Checker → Phase
+phaseBehindAll zero s = s .phase
+phaseBehindAll (suc n) s = phaseAt n (s .batch)
 
-payment-phase : (s : Checker) (p : Payment) → AllKept (allGiven (expectedInPayment s) s (recordsIn p))
-    → behindAll s (recordsIn p) .phase ≡ cond (p .triple) BehindZ Paid
-unfolding behindAll
-payment-phase s p k = go (p .triple) (later-kept _ t (p .second) (thirdIn p) others)
-  where
-    t : Checker
-    t = nextBy s (p .first)
+abbrev pub phaseBy : Checker → Call → Phase
+phaseBy s (openFile v) = Headed
+phaseBy s (openBatch v) = Opened
+phaseBy s (pay p) = phaseBehindAll (length (recordsIn p)) s
+phaseBy s (closeBatch v) = Closed
+phaseBy s (closeFile v) = Ended
 
-    u : Checker
-    u = nextBy t (p .second)
+inside-phase : {s t : Checker} {n : ℕ} → Inside s n t → t .phase ≡ phaseBehindAll n s
+inside-phase (before k) = refl
+inside-phase (inside m p) = m .phase
 
-    others : AllKept (allGiven (second (s .batch) ∷ zIn (s .dir) ∷ []) t (p .second ∷ thirdIn p))
-    others = later-kept (expectedInPayment s) s (p .first) (p .second ∷ thirdIn p) k
-
-    go : (b : Bool) → let gs = cond b (p .third ∷ []) [] in AllKept (allGiven (zIn (s .dir) ∷ []) u gs) → behindAll u gs .phase ≡ cond b BehindZ Paid
-    go true k = next-phase (p .third .which) u (bytesOf u (p .third)) ∙ ap after (z-expected (s .dir) (p .third .which) (first-expected _ u (p .third) [] k) .1)
-    go false k = goes-on-moves t (bytesOf t (p .second)) (second-expected (s .batch) (p .second .which) (first-expected _ t (p .second) (thirdIn p) others)) .phase
+payment-phase : (s : Checker) (p : Payment) → MayPay s → AllKept (allGiven (expectedInPayment s) s (recordsIn p))
+    → behindAll s (recordsIn p) .phase ≡ phaseBehindAll (length (recordsIn p)) s
+payment-phase s p m k = inside-phase {n = length (recordsIn p)} (subst (λ (n : ℕ). Inside s n (behindAll s (recordsIn p))) (omega arith) (inside-all 0 (recordsIn p) (before m) k))
 
 -- an accepted call leaves its phase
-pub phase-after : (w : Writer) (c : Call) (out : List ℕ) → answerOf w c out ≡ Accepted → stateBehind w (lent c out) .checker .phase ≡ phaseBy c
+pub phase-after : (w : Writer) (c : Call) (out : List ℕ) → answerOf w c out ≡ Accepted → stateBehind w (lent c out) .checker .phase ≡ phaseBy (w .checker) c
 unfolding behindAll
 phase-after w (openFile v) out e = rw e
 phase-after w (openBatch v) out e = rw e
-phase-after w (pay p) out e = rw e (payment-phase (w .checker) p (kept w (pay p) out e .records))
+phase-after w (pay p) out e =
+    let k = kept w (pay p) out e in
+    rw e (payment-phase (w .checker) p (pay-may (w .checker) (k .is-held) p (k .first)) (k .records))
 phase-after w (closeBatch v) out e = rw e
 phase-after w (closeFile v) out e = rw e
 
@@ -69,19 +70,27 @@ closes w v out e = phase-after w (closeFile v) out e
 pub data Closing : Call → Type 0 where
   closing : (v : Fields) → Closing (closeFile v)
 
-closing-phase : (c : Call) → phaseBy c ≡ Ended → Closing c
-closing-phase (openFile v) e = never (ap ended e)
-closing-phase (openBatch v) e = never (ap ended e)
-closing-phase (pay p) e = paid (p .triple) e
+-- behind its records a payment is made: it has as many as its kind of batch asks for, or a Z more
+pub paid-phase : (s : Checker) (p : Payment) → (phaseBy s (pay p) ≡ Paid) ⊎ (phaseBy s (pay p) ≡ BehindZ)
+paid-phase s p = go (length (recordsIn p)) (paid-in-full (s .batch) p) (omega (arith, enough p))
   where
-    paid : (b : Bool) → cond b BehindZ Paid ≡ Ended → Closing (pay p)
-    paid true e = never (ap ended e)
-    paid false e = never (ap ended e)
-closing-phase (closeBatch v) e = never (ap ended e)
-closing-phase (closeFile v) e = closing v
+    go : (n : ℕ) → length (payment (s .batch)) ≤ n → 1 ≤ n → (phaseBehindAll n s ≡ Paid) ⊎ (phaseBehindAll n s ≡ BehindZ)
+    go zero h some = absurd (omega arith)
+    go (suc n) h some = last (decLt n (length (payment (s .batch))))
+      where
+        last : Dec (n < length (payment (s .batch))) → (phaseAt n (s .batch) ≡ Paid) ⊎ (phaseAt n (s .batch) ≡ BehindZ)
+        last (yes q) = inl (rw (lt-ltb n (length (payment (s .batch))) q, le-ltb (suc n) (length (payment (s .batch))) h))
+        last (no q) = inr (rw (le-ltb n (length (payment (s .batch))) (omega arith)))
+
+closing-phase : (s : Checker) (c : Call) → phaseBy s c ≡ Ended → Closing c
+closing-phase s (openFile v) e = never (ap ended e)
+closing-phase s (openBatch v) e = never (ap ended e)
+closing-phase s (pay p) e = ⊎-elim (λ q. never (ap ended (sym q ∙ e))) (λ q. never (ap ended (sym q ∙ e))) (paid-phase s p)
+closing-phase s (closeBatch v) e = never (ap ended e)
+closing-phase s (closeFile v) e = closing v
 
 pub closed-by : (w : Writer) (c : Call) (out : List ℕ) → answerOf w c out ≡ Accepted → stateBehind w (lent c out) .checker .phase ≡ Ended → Closing c
-closed-by w c out e end = closing-phase c (sym (phase-after w c out e) ∙ end)
+closed-by w c out e end = closing-phase (w .checker) c (sym (phase-after w c out e) ∙ end)
 
 -- ---- behind that every call is refused: of any state that is held, and so of any that calls leave
 

@@ -1,93 +1,172 @@
 -- The records of a payment, by what is expected at each position. Assumes nothing.
-use mathlib.Core.Path.{_≡_, refl, sym, ap, _∙_}
-use mathlib.Core.Bool.{Bool, true, false, _||_}
+use mathlib.Core.Path.{_≡_, refl, sym, ap}
+use mathlib.Core.Bool.{true, false, not, _&&_, _||_, and-false}
 use mathlib.Core.List.{List, [], _∷_}
-use Prim.Native.Nat.{ℕ}
-use borrow.Author.Tests.{eqb-true, eq-eqb}
-use lib.ListN.{getD}
+use Prim.Native.Nat.{ℕ, zero, suc, _≤_, _<_}
+use native.Mathlib.Decide.{decLe}
+use native.Mathlib.Omega.{arith}
+use borrow.Author.Tests.{eq-eqb, ne-eqb}
+use lib.Dec.{eqb}
+use lib.ListN.{length, take, drop, length-drop}
+use lib.Seq.{drop-nil}
 use Rattle.answer.specs.laws.Order.{never}
-use Rattle.layout.specs.Table.{code, isOneOf}
+use Rattle.layout.specs.Records.{amountsOf, code, isOneOf}
 use Rattle.layout.specs.declared.Direction.{Direction}
 use Rattle.layout.specs.declared.Direction.the-variants.{Remittance, Return}
 use Rattle.layout.specs.declared.Record.{Record}
-use Rattle.layout.specs.declared.Record.the-variants.{FileHeader, BatchHeader, SegmentA, SegmentB, SegmentJ, SegmentJ52, SegmentZ, BatchTrailer, FileTrailer}
+use Rattle.layout.specs.declared.Record.the-variants.{SegmentZ}
+use Rattle.layout.specs.Field.{Field}
+use Rattle.layout.specs.laws.Records.{the-one, itself}
 use Rattle.layout.specs.declared.pairs.Batch.{Batch}
-use Rattle.layout.specs.declared.pairs.Batch.the-variants.{Credit, Boleto, Unknown}
 use Rattle.fields.specs.declared.Fields.{Fields}
-use Rattle.checker.specs.Order.{first, second}
+use Rattle.checker.specs.Order.{payment, recordAt, readingOf}
+use Rattle.checker.specs.Line.{found}
+use Rattle.checker.specs.declared.order.Reading.the-variants.{Line, Nothing}
 use Rattle.checker.specs.Totals.{totals, batchesOf, paymentsOf}
 use Rattle.checker.specs.declared.totals.Totals.{Totals}
-use Rattle.checker.specs.laws.Edges.{Begins, by-A, by-J, GoesOn, by-B, by-J52}
-use Rattle.writer.specs.Given.{amountOf}
-use Rattle.writer.specs.Refusals.{zIn}
-
--- ---- one of one record is that record
-
-abbrev kinds : List Record
-kinds = FileHeader ∷ BatchHeader ∷ SegmentA ∷ SegmentB ∷ SegmentJ ∷ SegmentJ52 ∷ SegmentZ ∷ BatchTrailer ∷ FileTrailer ∷ []
-
-decoded : (r : Record) → getD kinds (code r) FileHeader ≡ r
-decoded FileHeader = refl
-decoded BatchHeader = refl
-decoded SegmentA = refl
-decoded SegmentB = refl
-decoded SegmentJ = refl
-decoded SegmentJ52 = refl
-decoded SegmentZ = refl
-decoded BatchTrailer = refl
-decoded FileTrailer = refl
-
-alone : (b : Bool) → b || false ≡ true → b ≡ true
-alone true e = refl
-alone false e = e
-
-the-one : (r q : Record) → isOneOf r (q ∷ []) ≡ true → r ≡ q
-the-one r q e = sym (decoded r) ∙ ap (λ (n : ℕ). getD kinds n FileHeader) (eqb-true (code r) (code q) (alone _ e)) ∙ decoded q
-
--- and each is one of itself
-pub itself : (r : Record) → isOneOf r (r ∷ []) ≡ true
-itself r = rw (eq-eqb (code r) (code r) refl)
+use Rattle.checker.specs.laws.Payments.{Stands, row}
+use Rattle.checker.specs.laws.Details.{detail-of}
+use Rattle.writer.specs.Given.{givenIn, amountOf}
+use Rattle.writer.specs.Refusals.{zIn, positions, expectedNow}
+use Rattle.writer.specs.inner.Steps.{expectedAt}
 
 -- ---- the records of a payment, where one is expected
-
-pub first-expected : (b : Batch) (r : Record) → isOneOf r (first b) ≡ true → Begins b r
-first-expected Credit r e = rw (the-one r SegmentA e) by-A
-first-expected Boleto r e = rw (the-one r SegmentJ e) by-J
-first-expected Unknown r e = never e
-
-pub second-expected : (b : Batch) (r : Record) → isOneOf r (second b) ≡ true → GoesOn b r
-second-expected Credit r e = rw (the-one r SegmentB e) by-B
-second-expected Boleto r e = rw (the-one r SegmentJ52 e) by-J52
-second-expected Unknown r e = never e
 
 pub z-expected : (d : Direction) (r : Record) → isOneOf r (zIn d) ≡ true → (d ≡ Return) × (r ≡ SegmentZ)
 z-expected Remittance r e = never e
 z-expected Return r e = (refl, the-one r SegmentZ e)
 
--- and the other way
-pub expected-first : {b : Batch} {r : Record} → Begins b r → isOneOf r (first b) ≡ true
-expected-first by-A = refl
-expected-first by-J = refl
-
-pub expected-second : {b : Batch} {r : Record} → GoesOn b r → isOneOf r (second b) ≡ true
-expected-second by-B = refl
-expected-second by-J52 = refl
-
 pub expected-z : {d : Direction} → d ≡ Return → isOneOf SegmentZ (zIn d) ≡ true
 expected-z e = rw e
+
+-- at a position of a list of records: that record, or behind the last a Z
+data Found (d : Direction) (rs : List Record) (n : ℕ) (r : Record) : Type 0 where
+  at-position : take 1 (drop n rs) ≡ r ∷ [] → Found d rs n r
+  behind-all : n ≡ length rs → 1 ≤ n → d ≡ Return → r ≡ SegmentZ → Found d rs n r
+
+found-next : {d : Direction} {rs : List Record} {n : ℕ} {r : Record} (x : Record) → Found d rs n r → Found d (x ∷ rs) (suc n) r
+found-next x (at-position e) = at-position e
+found-next x (behind-all e some q z) = behind-all (ap suc e) (omega arith) q z
+
+finds : (d : Direction) (rs : List Record) (n : ℕ) (r : Record) → isOneOf r (expectedNow (drop n (positions d rs))) ≡ true → Found d rs n r
+finds d [] zero r e = never e
+finds d [] (suc n) r e = never e
+finds d (x ∷ []) zero r e = at-position (ap (λ (q : Record). q ∷ []) (sym (the-one r x e)))
+finds d (x ∷ []) (suc zero) r e = let z = z-expected d r e in behind-all refl (omega arith) (z .0) (z .1)
+finds d (x ∷ []) (suc (suc zero)) r e = never e
+finds d (x ∷ []) (suc (suc (suc n))) r e = never e
+finds d (x ∷ y ∷ rs) zero r e = at-position (ap (λ (q : Record). q ∷ []) (sym (the-one r x e)))
+finds d (x ∷ y ∷ rs) (suc n) r e = found-next x (finds d (y ∷ rs) n r e)
+
+-- of a payment
+pub data Expected (d : Direction) (b : Batch) (n : ℕ) (r : Record) : Type 0 where
+  its-own : Stands b n r → Expected d b n r
+  behind-last : n ≡ length (payment b) → 1 ≤ n → d ≡ Return → r ≡ SegmentZ → Expected d b n r
+
+pub expected : (d : Direction) (b : Batch) (n : ℕ) (r : Record) → expectedAt n d b r ≡ true → Expected d b n r
+expected d b n r e = go (finds d (payment b) n r e)
+  where
+    go : Found d (payment b) n r → Expected d b n r
+    go (at-position e) = its-own (record { is = e })
+    go (behind-all e some q z) = behind-last e some q z
+
+-- ---- and the other way
+
+one-position : (d : Direction) (rs : List Record) (n : ℕ) {r : Record} → take 1 (drop n rs) ≡ r ∷ [] → expectedNow (drop n (positions d rs)) ≡ r ∷ []
+one-position d [] zero e = e
+one-position d [] (suc n) e = e
+one-position d (x ∷ []) zero e = e
+one-position d (x ∷ []) (suc zero) e = absurd (let z : _≡_ {A = ℕ} 0 1 = ap length e in omega arith)
+one-position d (x ∷ []) (suc (suc n)) e = absurd (let z : _≡_ {A = ℕ} 0 1 = ap length e in omega arith)
+one-position d (x ∷ y ∷ rs) zero e = e
+one-position d (x ∷ y ∷ rs) (suc n) e = one-position d (y ∷ rs) n e
+
+last-position : (d : Direction) (rs : List Record) → 1 ≤ length rs → expectedNow (drop (length rs) (positions d rs)) ≡ zIn d
+last-position d [] some = absurd (omega arith)
+last-position d (x ∷ []) some = refl
+last-position d (x ∷ y ∷ rs) some = last-position d (y ∷ rs) (omega arith)
+
+no-position : (d : Direction) (rs : List Record) (n : ℕ) → length rs < n → expectedNow (drop n (positions d rs)) ≡ []
+no-position d [] zero h = absurd (omega arith)
+no-position d [] (suc n) h = refl
+no-position d (x ∷ []) zero h = absurd (omega arith)
+no-position d (x ∷ []) (suc zero) h = absurd (omega arith)
+no-position d (x ∷ []) (suc (suc zero)) h = refl
+no-position d (x ∷ []) (suc (suc (suc n))) h = refl
+no-position d (x ∷ y ∷ rs) zero h = absurd (omega arith)
+no-position d (x ∷ y ∷ rs) (suc n) h = no-position d (y ∷ rs) n (omega arith)
+
+no-records : (d : Direction) (rs : List Record) (n : ℕ) → length rs ≡ 0 → expectedNow (drop n (positions d rs)) ≡ []
+no-records d [] n e = rw (drop-nil n)
+no-records d (x ∷ rs) n e = absurd (omega arith)
+
+none-taken : (rs : List Record) → take 1 rs ≡ [] → length rs ≡ 0
+none-taken [] e = refl
+none-taken (x ∷ rs) e = absurd (let z : _≡_ {A = ℕ} 1 0 = ap length e in omega arith)
+
+module _ (d : Direction) {b : Batch} {n : ℕ} where
+  pub own-position : {r : Record} → Stands b n r → expectedNow (drop n (positions d (payment b))) ≡ r ∷ []
+  own-position g = one-position d (payment b) n (g .is)
+
+  pub expected-own : {r : Record} → Stands b n r → expectedAt n d b r ≡ true
+  expected-own {r} g = rw (own-position g) (itself r)
+
+-- as the code reads it
+pub own-reading : (d : Direction) (b : Batch) (n : ℕ) (r q : Record) → readingOf (recordAt n b) ≡ Line q → expectedAt n d b r ≡ eqb (code r) (code q) || false
+own-reading d b n r q e = go (drop n (payment b)) refl e
+  where
+    go : (rs : List Record) → drop n (payment b) ≡ rs → readingOf (take 1 rs) ≡ Line q → expectedAt n d b r ≡ eqb (code r) (code q) || false
+    go [] h e = never (ap found e)
+    go (x ∷ rs) h e = let same : x ≡ q = cc in rw (own-position d {b = b} {n = n} (record { is = ap (take 1) h }), same)
+
+pub no-reading : (n : ℕ) (b : Batch) → readingOf (recordAt n b) ≡ Nothing → recordAt n b ≡ []
+no-reading n b e = go (drop n (payment b)) e
+  where
+    go : (rs : List Record) → readingOf (take 1 rs) ≡ Nothing → take 1 rs ≡ []
+    go [] e = refl
+    go (x ∷ rs) e = never (sym (ap found e))
+
+-- where none of the payment's stands, a Z is expected behind the last
+pub no-own : (d : Direction) (b : Batch) (n : ℕ) (r : Record) → recordAt n b ≡ []
+    → expectedAt n d b r ≡ (not (eqb n 0) && eqb n (length (payment b))) && isOneOf r (zIn d)
+no-own d b n r e = go (decLe n (length rs)) (decLe 1 n)
+  where
+    rs : List Record
+    rs = payment b
+
+    behind : length rs ≤ n
+    behind = omega (arith, length-drop n rs, none-taken (drop n rs) e)
+
+    same : n ≤ length rs → n ≡ length rs
+    same q = omega (arith, behind)
+
+    go : Dec (n ≤ length rs) → Dec (1 ≤ n) → isOneOf r (expectedNow (drop n (positions d rs))) ≡ (not (eqb n 0) && eqb n (length rs)) && isOneOf r (zIn d)
+    go (yes q) (yes some) =
+        let is : expectedNow (drop n (positions d rs)) ≡ zIn d = rw (same q) (last-position d rs (omega (arith, same q))) in
+        rw (is, ne-eqb n 0 (λ z. omega arith), eq-eqb n (length rs) (same q))
+    go (yes q) (no none) = rw (no-records d rs n (omega (arith, same q)), eq-eqb n 0 (omega arith))
+    go (no q) some = rw (no-position d rs n (omega (arith, behind)), ne-eqb n (length rs) (λ z. q (omega arith)), and-false)
+
+pub expected-last : (d : Direction) (b : Batch) → 1 ≤ length (payment b) → d ≡ Return → expectedAt (length (payment b)) d b SegmentZ ≡ true
+expected-last d b some e = rw (last-position d (payment b) some) (expected-z e)
 
 -- ---- what they count, as they are given: the first counts the payment and its amount
 
 abbrev pub countsAs : Record → Fields → Totals
 countsAs r v = totals (batchesOf r) 1 (paymentsOf r) (amountOf r v)
 
-pub first-counts : {b : Batch} {r : Record} → Begins b r → (v : Fields) → countsAs r v ≡ totals 0 1 1 (amountOf r v)
-first-counts by-A v = refl
-first-counts by-J v = refl
+-- what begins no payment has no amount
+none-given : (r : Record) (fs : List Field) (v : Fields) → length fs ≡ 0 → givenIn r fs v ≡ 0
+none-given r [] v e = refl
+none-given r (f ∷ fs) v e = absurd (omega arith)
 
-pub second-counts : {b : Batch} {r : Record} → GoesOn b r → (v : Fields) → countsAs r v ≡ totals 0 1 0 0
-second-counts by-B v = refl
-second-counts by-J52 v = refl
+no-amount : (r : Record) (v : Fields) → paymentsOf r ≡ 0 → amountOf r v ≡ 0
+no-amount r v e = none-given r (amountsOf r) v e
 
-pub z-counts : {r : Record} → r ≡ SegmentZ → (v : Fields) → countsAs r v ≡ totals 0 1 0 0
-z-counts e v = rw e
+pub first-counts : {d : Direction} {b : Batch} {r : Record} → Expected d b 0 r → (v : Fields) → countsAs r v ≡ totals 0 1 1 (amountOf r v)
+first-counts {r = r} (its-own g) v = rw (detail-of r (row g .type) .opens, row g .begins)
+first-counts (behind-last e some q z) v = absurd (omega arith)
+
+pub later-counts : {d : Direction} {b : Batch} {n : ℕ} {r : Record} → Expected d b (suc n) r → (v : Fields) → countsAs r v ≡ totals 0 1 0 0
+later-counts {r = r} (its-own g) v = rw (detail-of r (row g .type) .opens, row g .begins, no-amount r v (row g .begins))
+later-counts (behind-last e some q z) v = rw z

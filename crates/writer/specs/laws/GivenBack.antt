@@ -11,12 +11,16 @@ use Rattle.answer.specs.laws.Order.{kept-accepted}
 use Rattle.digits.specs.Digits.{digitByte}
 use Rattle.digits.specs.Numbers.{numberOf}
 use Rattle.digits.specs.declared.spelling.Number.the-variants.{Is}
-use Rattle.layout.specs.Table.{Field, part, typeOf, isOneOf, recordBytes, bankField, batchField, batchRecords, batchSum, fileBatches, fileRecords, fieldsOf}
+use Rattle.layout.specs.Field.{Field, part}
+use Rattle.layout.specs.Records.{shapeOf, typeOf, isOneOf}
+use Rattle.layout.specs.Table.{recordBytes, bankField, batchField, batchRecords, batchSum, fileBatches, fileRecords, fieldsOf}
 use Rattle.layout.specs.Names.{before, indexOf}
 use Rattle.layout.specs.Kinds.{asNumber}
 use Rattle.layout.specs.Record.{allPrintable}
 use Rattle.layout.specs.declared.Record.{Record}
-use Rattle.layout.specs.declared.Record.the-variants.{FileHeader, BatchHeader, SegmentA, SegmentB, SegmentJ, SegmentJ52, SegmentZ, BatchTrailer, FileTrailer}
+use Rattle.layout.specs.declared.Record.the-variants.{FileHeader, BatchHeader, BatchTrailer, FileTrailer}
+use Rattle.layout.specs.declared.shapes.LineType.the-variants.{Detail}
+use Rattle.layout.specs.laws.Records.{by-type}
 use Rattle.fields.specs.Values.{heldAs, recordOf, mostFields, fieldsIn, setNth, ofRecord}
 use Rattle.fields.specs.laws.RoundTrip.{numbers-length, number-in, fields-then-written}
 use Rattle.fields.specs.declared.Fields.{Fields}
@@ -24,10 +28,11 @@ use Rattle.checker.specs.Line.{ordinal, headerBatch, trailerBatch}
 use Rattle.checker.specs.declared.Checker.{Checker}
 use Rattle.checker.specs.laws.Details.{inDetail, asked, AllRead}
 use Rattle.checker.specs.laws.Asks.{Body}
-use Rattle.writer.specs.Filling.{bankIndex, batchIndex, numberIndex, batchRecordsIndex, batchSumIndex, fileBatchesIndex, fileRecordsIndex, filledInBatch, filledDetail, filled, bytesOf}
-use Rattle.writer.specs.Calls.{Whole}
+use Rattle.filling.specs.Filling.{bankIndex, batchIndex, numberIndex, batchRecordsIndex, batchSumIndex, fileBatchesIndex, fileRecordsIndex, filledInBatch, filledDetail, filled, bytesOf}
+use Rattle.fields.specs.Values.{Whole}
 use Rattle.writer.specs.laws.Accepted.{Right}
 use Rattle.writer.specs.laws.Reads.{Stands, stands-at, at-bank, at-batch, at-number}
+use Rattle.checker.specs.Totals.{batchCount, centSum, recordCount}
 
 -- a number that stands there already
 with-same : (j n : ℕ) (v : Fields) → getD (v .numbers) j 0 ≡ n → setNth j n v ≡ v
@@ -60,31 +65,45 @@ module _ (s : Checker) (rec : List ℕ) where
     in-detail : typeOf r ≡ digitByte 3 → AllRead (inDetail s) rec → filledDetail r s (fieldsIn r rec) ≡ fieldsIn r rec
     unfolding AllRead
     in-detail e n =
-        ap (setNth (numberIndex r) (s .current .records .0)) (in-batch (n .0) (n .1 .0)) ∙ refilled _ (at-number r e) refl (n .1 .1 .0)
+        ap (setNth (numberIndex r) (recordCount (s .current))) (in-batch (n .0) (n .1 .0)) ∙ refilled _ (at-number r e) refl (n .1 .1 .0)
 
-  filled-same : (r : Record) → AllRead (asked r s) rec → filled r s (fieldsIn r rec) ≡ fieldsIn r rec
+  abbrev Same : Record → Type 0
+  Same r = AllRead (asked r s) rec → filled r s (fieldsIn r rec) ≡ fieldsIn r rec
+
+  file-header : Same FileHeader
   unfolding filled AllRead fieldsOf indexOf before
-  filled-same FileHeader n = batch-same FileHeader headerBatch (n .0)
-  filled-same BatchHeader n = in-batch BatchHeader (n .0) (n .1 .0)
-  filled-same SegmentA n = in-detail SegmentA refl n
-  filled-same SegmentB n = in-detail SegmentB refl n
-  filled-same SegmentJ n = in-detail SegmentJ refl n
-  filled-same SegmentJ52 n = in-detail SegmentJ52 refl n
-  filled-same SegmentZ n = in-detail SegmentZ refl n
-  filled-same BatchTrailer n =
-      let records = refilled {r = BatchTrailer} (s .current .records .0 + 1) (stands-at batchRecordsIndex batchRecords (lit≤ tt) refl) refl (n .1 .1 .0) in
-      let sum = refilled {r = BatchTrailer} (s .current .cents .0) (stands-at batchSumIndex batchSum (lit≤ tt) refl) refl (n .1 .1 .1 .0) in
-      ap (λ (v : Fields). setNth batchSumIndex (s .current .cents .0) (setNth batchRecordsIndex (s .current .records .0 + 1) v)) (in-batch BatchTrailer (n .0) (n .1 .0))
-      ∙ ap (setNth batchSumIndex (s .current .cents .0)) records
+  file-header n = batch-same FileHeader headerBatch (n .0)
+
+  batch-header : Same BatchHeader
+  unfolding filled AllRead fieldsOf indexOf before
+  batch-header n = in-batch BatchHeader (n .0) (n .1 .0)
+
+  batch-trailer : Same BatchTrailer
+  unfolding filled AllRead fieldsOf indexOf before
+  batch-trailer n =
+      let records = refilled {r = BatchTrailer} (recordCount (s .current) + 1) (stands-at batchRecordsIndex batchRecords (lit≤ tt) refl) refl (n .1 .1 .0) in
+      let sum = refilled {r = BatchTrailer} (centSum (s .current)) (stands-at batchSumIndex batchSum (lit≤ tt) refl) refl (n .1 .1 .1 .0) in
+      ap (λ (v : Fields). setNth batchSumIndex (centSum (s .current)) (setNth batchRecordsIndex (recordCount (s .current) + 1) v)) (in-batch BatchTrailer (n .0) (n .1 .0))
+      ∙ ap (setNth batchSumIndex (centSum (s .current))) records
       ∙ sum
-  filled-same FileTrailer n =
-      let batches = refilled {r = FileTrailer} (s .closed .batches) (stands-at fileBatchesIndex fileBatches (lit≤ tt) refl) refl (n .1 .1 .0) in
-      let records = refilled {r = FileTrailer} (s .closed .records .0 + 1) (stands-at fileRecordsIndex fileRecords (lit≤ tt) refl) refl (n .1 .1 .1 .0) in
-      let counts : Fields → Fields = λ v. setNth fileRecordsIndex (s .closed .records .0 + 1) (setNth fileBatchesIndex (s .closed .batches) v) in
+
+  file-trailer : Same FileTrailer
+  unfolding filled AllRead fieldsOf indexOf before
+  file-trailer n =
+      let batches = refilled {r = FileTrailer} (batchCount (s .closed)) (stands-at fileBatchesIndex fileBatches (lit≤ tt) refl) refl (n .1 .1 .0) in
+      let records = refilled {r = FileTrailer} (recordCount (s .closed) + 1) (stands-at fileRecordsIndex fileRecords (lit≤ tt) refl) refl (n .1 .1 .1 .0) in
+      let counts : Fields → Fields = λ v. setNth fileRecordsIndex (recordCount (s .closed) + 1) (setNth fileBatchesIndex (batchCount (s .closed)) v) in
       ap (λ (v : Fields). counts (setNth (batchIndex FileTrailer) trailerBatch v)) (bank-same FileTrailer (s .bank) (n .0))
       ∙ ap counts (batch-same FileTrailer trailerBatch (n .1 .0))
-      ∙ ap (setNth fileRecordsIndex (s .closed .records .0 + 1)) batches
+      ∙ ap (setNth fileRecordsIndex (recordCount (s .closed) + 1)) batches
       ∙ records
+
+  detail : (r : Record) → shapeOf r .line ≡ Detail → Same r
+  unfolding filled
+  detail r e n = rw e (in-detail r (rw e) (rw e at n))
+
+  filled-same : (r : Record) → Same r
+  filled-same = by-type Same file-header batch-header detail batch-trailer file-trailer
 
 -- ---- a record that fits a state, given back there
 

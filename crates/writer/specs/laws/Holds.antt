@@ -7,7 +7,8 @@ use native.Mathlib.Nat.{not-suc-le-zero, le-of-suc-le-suc}
 use native.Mathlib.Omega.{arith}
 use lib.ListN.{length, getD, take, List·getD-append}
 use Rattle.digits.specs.Digits.{place}
-use Rattle.layout.specs.Table.{part, fieldsOf, recordBytes, none}
+use Rattle.layout.specs.Field.{part, none}
+use Rattle.layout.specs.Table.{fieldsOf, recordBytes}
 use Rattle.layout.specs.laws.Tiling.{covered}
 use Rattle.layout.specs.declared.Record.{Record}
 use Rattle.fields.specs.Values.{heldAs, rendered}
@@ -15,11 +16,12 @@ use Rattle.fields.specs.laws.Parts.{holds-at}
 use Rattle.fields.specs.declared.Fields.{Fields}
 use Rattle.checker.specs.Line.{lineFrom}
 use Rattle.checker.specs.declared.Checker.{Checker}
-use Rattle.writer.specs.Filling.{filled, bytesOf}
+use Rattle.filling.specs.Filling.{filled, bytesOf}
 use Rattle.writer.specs.Refusals.{nextBy}
 use Rattle.writer.specs.Outcome.{linesFor, behindAll}
-use Rattle.writer.specs.Calls.{Whole, AllWhole, no-more, and-then}
-use Rattle.writer.specs.laws.Filled.{fillsIn, fillsAt, filled-text, not-filled}
+use Rattle.fields.specs.Values.{Whole}
+use Rattle.writer.specs.Calls.{AllWhole, no-more, and-then}
+use Rattle.filling.specs.laws.Filled.{fillsIn, fillsAt, filled-text, not-filled}
 use Rattle.writer.specs.laws.Lines.{full-text, bytes-length}
 
 -- ---- at each place of a record

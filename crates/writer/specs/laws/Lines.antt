@@ -8,11 +8,12 @@ use Rattle.fields.specs.laws.Parts.{record-length}
 use Rattle.fields.specs.declared.Fields.{Fields}
 use Rattle.checker.specs.Line.{lineBytes, lineFrom}
 use Rattle.checker.specs.declared.Checker.{Checker}
-use Rattle.writer.specs.Filling.{filled, bytesOf}
+use Rattle.filling.specs.Filling.{filled, bytesOf}
 use Rattle.writer.specs.Refusals.{nextBy, size}
 use Rattle.writer.specs.Outcome.{linesFor}
-use Rattle.writer.specs.Calls.{Whole, AllWhole, no-more, and-then}
-use Rattle.writer.specs.laws.Filled.{filled-text}
+use Rattle.fields.specs.Values.{Whole}
+use Rattle.writer.specs.Calls.{AllWhole, no-more, and-then}
+use Rattle.filling.specs.laws.Filled.{filled-text}
 
 module _ (s : Checker) (g : Fields) (whole : Whole g) where
   -- fields with what the writer fills have a whole text; so a record has 240 bytes, and its line 242

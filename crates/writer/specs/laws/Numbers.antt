@@ -1,6 +1,6 @@
 -- The numbers that a call is refused with. Assumes nothing.
 use mathlib.Core.Path.{_≡_, refl, ap, _∙_}
-use mathlib.Core.Bool.{Bool, true, false, cond, _&&_, _||_}
+use mathlib.Core.Bool.{Bool, true, _&&_, _||_}
 use mathlib.Core.List.{List, [], _∷_}
 use Prim.Native.Nat.{ℕ, suc, _<_, zero-le, suc-le-suc}
 use lib.Dec.{leb, eqb}
@@ -11,29 +11,31 @@ use Rattle.answer.specs.laws.Only.{Only, none, more, past, join, broken-so}
 use Rattle.answer.specs.declared.LineNo.{LineNo}
 use Rattle.answer.specs.declared.Refusal.{Refusal}
 use Rattle.answer.specs.declared.Answer.the-variants.{Refused}
-use Rattle.layout.specs.Table.{Kind, N, Id, T as Text, F, D, Time, K, O, Zeros, Exact, OneOf, Service, Form, Barcode, RecordType, Segment, Field, part, fieldsOf, none as no-field, isOneOf}
+use Rattle.layout.specs.Field.{Kind, N, Id, T as Text, F, D, Time, K, O, Zeros, Exact, OneOf, Service, Form, Barcode, RecordType, Segment, Field, part, none as no-field}
+use Rattle.layout.specs.Table.{fieldsOf}
+use Rattle.layout.specs.Records.{shapeOf, isOneOf}
 use Rattle.layout.specs.Kinds.{Part, means, same, blankIn}
 use Rattle.layout.specs.Record.{partOf, rulesOf}
 use Rattle.layout.specs.laws.Bytes.{same-self}
 use Rattle.layout.specs.declared.Direction.{Direction}
 use Rattle.layout.specs.declared.Direction.the-variants.{Remittance, Return}
 use Rattle.layout.specs.declared.Record.{Record}
-use Rattle.layout.specs.declared.Record.the-variants.{SegmentJ}
+use Rattle.layout.specs.declared.shapes.House.{House}
+use Rattle.layout.specs.declared.shapes.House.the-variants.{NoRules, RulesOfJ}
 use Rattle.fields.specs.Values.{heldAs, rendered}
 use Rattle.fields.specs.laws.Parts.{holds}
 use Rattle.fields.specs.declared.Fields.{Fields}
-use Rattle.checker.specs.Line.{houseRules, boletoRules}
+use Rattle.checker.specs.Line.{houseBy, boletoRules}
 use Rattle.checker.specs.Machine.{lineOf}
 use Rattle.checker.specs.declared.Checker.{Checker}
 use Rattle.writer.specs.Given.{Call, openFile, openBatch, pay, closeBatch, closeFile, recordsOf}
-use Rattle.writer.specs.Filling.{filled, bytesOf}
-use Rattle.writer.specs.Refusals.{turnLimits, placedIn, givenRules, nextBy, placedRules, sumRules, callRules}
-use Rattle.writer.specs.inner.Placed.{expectedIn, expectedNow, allGiven}
+use Rattle.filling.specs.Filling.{filled, bytesOf}
+use Rattle.writer.specs.Refusals.{turnLimits, expectedIn, expectedNow, givenRules, nextBy, allGiven, sumRules, callRules}
 use Rattle.writer.specs.Outcome.{answerOf}
-use Rattle.writer.specs.Calls.{Whole, AllWhole, no-more, and-then}
+use Rattle.fields.specs.Values.{Whole}
+use Rattle.writer.specs.Calls.{AllWhole, no-more, and-then}
 use Rattle.writer.specs.declared.Writer.{Writer}
 use Rattle.writer.specs.laws.Lines.{full-text}
-use Rattle.writer.specs.laws.Placed.{placed-rules}
 use Rattle.writer.specs.laws.Answers.{call-refused}
 
 -- 4, 8, 11 to 20, 23, 25, 50 and 51
@@ -82,13 +84,10 @@ fields (f ∷ fs) d rec n text h =
     join (kind (f .kind) (partOf f d rec) (n 0) (part f text) (h 0 (suc-le-suc zero-le)))
     (fields fs d rec (λ j. n (suc j)) text (λ j l. h (suc j) (suc-le-suc l)))
 
-house : (r : Record) (rec : List ℕ) → Writes (houseRules r rec)
+house : (h : House) (rec : List ℕ) → Writes (houseBy h rec)
 unfolding boletoRules
-house r rec = go (isOneOf r (SegmentJ ∷ []))
-  where
-    go : (b : Bool) → Writes (cond b (boletoRules rec) [])
-    go true = more refl (more refl (more refl (one refl)))
-    go false = none
+house NoRules rec = none
+house RulesOfJ rec = more refl (more refl (more refl (one refl)))
 
 given : (expected : Bool) (s : Checker) (g : Fields) → Whole g → Writes (givenRules expected (g .which) (s .dir) (bytesOf s g))
 unfolding givenRules
@@ -96,7 +95,7 @@ given expected s g whole =
     let v = filled (g .which) s g in
     let held = holds (g .which) v (full-text s g whole) in
     more refl
-    (more refl (join (fields (fieldsOf (g .which)) (s .dir) (bytesOf s g) (λ j. getD (v .numbers) j 0) (v .text) held) (house (g .which) (bytesOf s g))))
+    (more refl (join (fields (fieldsOf (g .which)) (s .dir) (bytesOf s g) (λ j. getD (v .numbers) j 0) (v .text) held) (house (shapeOf (g .which) .house) (bytesOf s g))))
 
 records : (expected : List (List Record)) (s : Checker) {gs : List Fields} → AllWhole gs → Writes (allGiven expected s gs)
 unfolding allGiven
@@ -124,7 +123,7 @@ pub never-others : (w : Writer) (c : Call) (out : List ℕ) → AllWhole (record
 unfolding callRules
 never-others w c out whole r e =
     let s = w .checker in
-    let each : Writes (placedRules s (placedIn c s)) = rw (placed-rules c s) (records (expectedIn c s) s whole) in
+    let each = records (expectedIn c s) s whole in
     broken-so
     (join (more refl (on-line (lineOf s) (turn c s))) (join each (on-line (lineOf s) (join (sums c s) (one refl)))))
     (call-refused w c out r .0 e)

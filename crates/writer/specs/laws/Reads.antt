@@ -8,7 +8,9 @@ use lib.ListN.{length, getD, length-append, List·getD-append}
 use Rattle.digits.specs.Digits.{digitByte}
 use Rattle.digits.specs.Numbers.{numberOf}
 use Rattle.digits.specs.declared.spelling.Number.the-variants.{Is}
-use Rattle.layout.specs.Table.{Field, part, line, typeOf, typePlace, bankField, batchField, numberField, segmentFields, segmentPlace, fieldsOf, none}
+use Rattle.layout.specs.Field.{Field, part, none}
+use Rattle.layout.specs.Table.{line, typePlace, bankField, batchField, numberField, segmentFields, segmentPlace, fieldsOf}
+use Rattle.layout.specs.Records.{typeOf}
 use Rattle.layout.specs.Kinds.{asNumber}
 use Rattle.layout.specs.laws.Indexes.{bank-index, batch-index, number-index}
 use Rattle.layout.specs.declared.Record.{Record}
@@ -18,9 +20,9 @@ use Rattle.fields.specs.declared.Fields.{Fields}
 use Rattle.checker.specs.Line.{behind}
 use Rattle.checker.specs.declared.Checker.{Checker}
 use Rattle.checker.specs.laws.Details.{line-first, detail-of}
-use Rattle.writer.specs.Filling.{bankIndex, batchIndex, numberIndex, filled, bytesOf}
+use Rattle.filling.specs.Filling.{bankIndex, batchIndex, numberIndex, filled, bytesOf}
 use Rattle.writer.specs.laws.Accepted.{WellMade}
-use Rattle.writer.specs.laws.Filled.{fillsIn, numberFrom, filled-numbers}
+use Rattle.filling.specs.laws.Filled.{fillsIn, numberFrom, filled-numbers}
 use Rattle.writer.specs.laws.Lines.{full-text}
 
 -- ---- where a field stands in the table

@@ -11,19 +11,18 @@ use Rattle.answer.specs.laws.Only.{Only, none, more, past, join, broken-so}
 use Rattle.answer.specs.declared.LineNo.{LineNo}
 use Rattle.answer.specs.declared.Refusal.{Refusal}
 use Rattle.answer.specs.declared.Answer.the-variants.{Refused}
-use Rattle.layout.specs.Table.{isOneOf}
+use Rattle.layout.specs.Records.{isOneOf}
 use Rattle.layout.specs.declared.Record.{Record}
 use Rattle.fields.specs.declared.Fields.{Fields}
 use Rattle.checker.specs.Machine.{lineOf}
-use Rattle.checker.specs.laws.Verdict.{next-line-no}
+use Rattle.files.specs.laws.Verdict.{next-line-no}
 use Rattle.checker.specs.declared.Checker.{Checker}
 use Rattle.writer.specs.Given.{Call, openFile, openBatch, pay, closeBatch, closeFile, recordsOf}
-use Rattle.writer.specs.Filling.{bytesOf}
-use Rattle.writer.specs.Refusals.{turnLimits, placedIn, givenRules, nextBy, placedRules, lastRules, held, callRules}
-use Rattle.writer.specs.inner.Placed.{expectedIn, expectedNow, allGiven}
+use Rattle.filling.specs.Filling.{bytesOf}
+use Rattle.writer.specs.Refusals.{turnLimits, expectedIn, expectedNow, givenRules, nextBy, allGiven, lastRules, held, callRules}
 use Rattle.writer.specs.Outcome.{answerOf}
+use Rattle.writer.specs.laws.Given.{enough}
 use Rattle.writer.specs.declared.Writer.{Writer}
-use Rattle.writer.specs.laws.Placed.{placed-rules}
 use Rattle.writer.specs.laws.Answers.{call-refused}
 
 -- each rule is on a line from one on and before another, or is kept
@@ -51,7 +50,7 @@ module _ (low end : ℕ) where
 some : (c : Call) → 0 < length (recordsOf c)
 some (openFile v) = suc-le-suc zero-le
 some (openBatch v) = suc-le-suc zero-le
-some (pay p) = suc-le-suc zero-le
+some (pay p) = omega (arith, enough p)
 some (closeBatch v) = suc-le-suc zero-le
 some (closeFile v) = suc-le-suc zero-le
 
@@ -77,7 +76,7 @@ refused-line w c out r e = go (held s) refl
     go : (b : Bool) → held s ≡ b → LineNamed w c r
     go true q =
         let first : Within low end (lineOf s) = omega (arith, some c) in
-        let each : InLines low end (placedRules s (placedIn c s)) = rw (placed-rules c s) (each-on low end (expectedIn c s) s (recordsOf c) (omega arith) (omega arith)) in
+        let each = each-on low end (expectedIn c s) s (recordsOf c) (omega arith) (omega arith) in
         let h : Within low end (r .line) =
         broken-so
         (join (past q (all-on low end (lineOf s) first (turnLimits c s)))

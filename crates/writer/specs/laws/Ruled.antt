@@ -9,20 +9,24 @@ use Rattle.answer.specs.laws.Order.{accepted-kept}
 use Rattle.digits.specs.Digits.{digitByte}
 use Rattle.digits.specs.Numbers.{numberOf}
 use Rattle.digits.specs.declared.spelling.Number.the-variants.{Is}
-use Rattle.layout.specs.Table.{part, typeOf, bankField, batchField, batchRecords, batchSum, fileBatches, fileRecords, fieldsOf}
+use Rattle.layout.specs.Field.{part}
+use Rattle.layout.specs.Records.{shapeOf, typeOf}
+use Rattle.layout.specs.Table.{bankField, batchField, batchRecords, batchSum, fileBatches, fileRecords, fieldsOf}
 use Rattle.layout.specs.Names.{before, indexOf}
 use Rattle.layout.specs.laws.Indexes.{bank-index, batch-index, number-index}
 use Rattle.layout.specs.declared.Record.{Record}
-use Rattle.layout.specs.declared.Record.the-variants.{FileHeader, BatchHeader, SegmentA, SegmentB, SegmentJ, SegmentJ52, SegmentZ, BatchTrailer, FileTrailer}
+use Rattle.layout.specs.declared.Record.the-variants.{FileHeader, BatchHeader, BatchTrailer, FileTrailer}
+use Rattle.layout.specs.declared.shapes.LineType.the-variants.{Detail}
+use Rattle.layout.specs.laws.Records.{by-type}
 use Rattle.fields.specs.Values.{ofRecord}
 use Rattle.fields.specs.declared.Fields.{Fields}
 use Rattle.checker.specs.Line.{houseRules, rulesAs}
 use Rattle.checker.specs.declared.Checker.{Checker}
 use Rattle.checker.specs.laws.Details.{inDetail, asked, AllRead, Limit}
 use Rattle.checker.specs.laws.Asks.{record-kept, record-answers}
-use Rattle.writer.specs.Filling.{bankIndex, batchIndex, batchRecordsIndex, batchSumIndex, fileBatchesIndex, fileRecordsIndex, bytesOf}
+use Rattle.filling.specs.Filling.{bankIndex, batchIndex, batchRecordsIndex, batchSumIndex, fileBatchesIndex, fileRecordsIndex, bytesOf}
 use Rattle.writer.specs.laws.Accepted.{WellMade, Right}
-use Rattle.writer.specs.laws.Filled.{detailFills, fillsIn, numberFrom}
+use Rattle.filling.specs.laws.Filled.{detailFills, fillsIn, numberFrom}
 use Rattle.writer.specs.laws.Reads.{stands-at, at-bank, at-batch, at-number, reads-at}
 
 -- ---- the fields that read what the state counts are filled with it
@@ -46,27 +50,40 @@ module _ {s : Checker} {g : Fields} (t : WellMade s g) where
         (batch _ (rw (f, bank-index r, batch-index r, number-index r)), (reads-at t (at-number r e) refl _ (rw (f, bank-index r, batch-index r, number-index r)), tt)),
       )
 
-all-read : {s : Checker} (r : Record) (v : Fields) → WellMade s (ofRecord r v) → AllRead (asked r s) (bytesOf s (ofRecord r v))
+abbrev AllAsked : Checker → Record → Type 0
+AllAsked s r = (v : Fields) → WellMade s (ofRecord r v) → AllRead (asked r s) (bytesOf s (ofRecord r v))
+
+file-header : (s : Checker) → AllAsked s FileHeader
 unfolding AllRead fieldsOf indexOf before
-all-read FileHeader v t = (batch t _ refl, tt)
-all-read BatchHeader v t = (bank t refl, (batch t _ refl, tt))
-all-read SegmentA v t = detail-read t refl refl
-all-read SegmentB v t = detail-read t refl refl
-all-read SegmentJ v t = detail-read t refl refl
-all-read SegmentJ52 v t = detail-read t refl refl
-all-read SegmentZ v t = detail-read t refl refl
-all-read BatchTrailer v t =
+file-header s v t = (batch t _ refl, tt)
+
+batch-header : (s : Checker) → AllAsked s BatchHeader
+unfolding AllRead fieldsOf indexOf before
+batch-header s v t = (bank t refl, (batch t _ refl, tt))
+
+batch-trailer : (s : Checker) → AllAsked s BatchTrailer
+unfolding AllRead fieldsOf indexOf before
+batch-trailer s v t =
     let records = reads-at t (stands-at batchRecordsIndex batchRecords (lit≤ tt) refl) refl _ refl in
     let sum = reads-at t (stands-at batchSumIndex batchSum (lit≤ tt) refl) refl _ refl in
     (bank t refl, (batch t _ refl, (records, (sum, tt))))
-all-read FileTrailer v t =
+
+file-trailer : (s : Checker) → AllAsked s FileTrailer
+unfolding AllRead fieldsOf indexOf before
+file-trailer s v t =
     let batches = reads-at t (stands-at fileBatchesIndex fileBatches (lit≤ tt) refl) refl _ refl in
     let records = reads-at t (stands-at fileRecordsIndex fileRecords (lit≤ tt) refl) refl _ refl in
     (bank t refl, (batch t _ refl, (batches, (records, tt))))
 
+detail : (s : Checker) (r : Record) → shapeOf r .line ≡ Detail → AllAsked s r
+detail s r e v t = rw e (detail-read t (rw e) (rw e))
+
+all-read : (s : Checker) (r : Record) → AllAsked s r
+all-read s = by-type (AllAsked s) (file-header s) (batch-header s) (detail s) (batch-trailer s) (file-trailer s)
+
 -- the numbers that the checker asks
 pub numbers-read : {s : Checker} {g : Fields} → WellMade s g → AllRead (asked (g .which) s) (bytesOf s g)
-numbers-read {g = g} t = all-read (g .which) g t
+numbers-read {s} {g} t = all-read s (g .which) g t
 
 pub ruled : {expected : List Record} {s : Checker} {g : Fields} → Right expected s g → Limit (g .which) s → AllKept (rulesAs (g .which) s (bytesOf s g))
 ruled {s = s} {g = g} t few =

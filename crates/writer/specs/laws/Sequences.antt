@@ -9,18 +9,18 @@ use lib.Dec.{lit<}
 use Rattle.answer.specs.Limits.{fileCents}
 use Rattle.answer.specs.declared.Answer.{Answer}
 use Rattle.answer.specs.declared.Answer.the-variants.{Accepted, Refused}
-use Rattle.checker.specs.Totals.{none, add}
+use Rattle.checker.specs.Totals.{none, add, paymentCount, recordCount}
 use Rattle.checker.specs.Machine.{start, mostDetails}
-use Rattle.checker.specs.File.{checkFile}
+use Rattle.files.specs.File.{checkFile}
 use Rattle.checker.specs.Calls.{Reached, at-start, Through, here}
 use Rattle.checker.specs.laws.Sums.{same-totals, add-none, none-add, add-assoc, counted}
 use Rattle.checker.specs.laws.Bounds.{bounded-sound}
 use Rattle.checker.specs.laws.Kept as checker
 use Rattle.checker.specs.laws.Reached.{reached-kept}
-use Rattle.checker.specs.laws.Runs.{lines-are}
-use Rattle.checker.specs.laws.Verdict.{through-reached, through-append, through-lines, accepted-file}
-use Rattle.checker.specs.declared.order.Phase.the-variants.{Ended}
-use Rattle.checker.specs.declared.file.Outcome.the-variants as outcome
+use Rattle.files.specs.laws.Runs.{lines-are}
+use Rattle.files.specs.laws.Verdict.{through-reached, through-append, through-lines, accepted-file}
+use Rattle.layout.specs.declared.shapes.Phase.the-variants.{Ended}
+use Rattle.files.specs.declared.Outcome.the-variants as outcome
 use Rattle.checker.specs.declared.Checker.{Checker}
 use Rattle.writer.specs.Given.{Call, recordsOf}
 use Rattle.writer.specs.Refusals.{held, centsSoFar}
@@ -68,7 +68,7 @@ pub held-kept : {s : Checker} → checker.Kept s → centsSoFar s < fileCents �
 unfolding held
 held-kept {s} k few =
     let b = checker.kept-bounded k in
-    let details : s .current .records .0 ≤ 1 + mostDetails * s .current .payments = omega arith in
+    let details : recordCount (s .current) ≤ 1 + mostDetails * paymentCount (s .current) = omega arith in
     rw (bounded-sound b, le-leb _ _ details, lt-ltb _ _ few)
 
 -- behind the file's trailer no batch is open

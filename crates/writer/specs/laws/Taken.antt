@@ -7,19 +7,24 @@ use Rattle.answer.specs.declared.Answer.the-variants.{Accepted}
 use Rattle.layout.specs.Table.{fieldsOf}
 use Rattle.layout.specs.Names.{before, indexOf}
 use Rattle.layout.specs.declared.Record.{Record}
-use Rattle.layout.specs.declared.Record.the-variants.{FileHeader, BatchHeader, SegmentA, SegmentB, SegmentJ, SegmentJ52, SegmentZ, BatchTrailer, FileTrailer}
+use Rattle.layout.specs.declared.Record.the-variants.{FileHeader, BatchHeader, BatchTrailer, FileTrailer}
+use Rattle.layout.specs.declared.shapes.LineType.{LineType}
+use Rattle.layout.specs.declared.shapes.LineType.the-variants.{FileFirst, BatchFirst, Detail, BatchLast, FileLast}
+use Rattle.layout.specs.Records.{shapeOf}
+use Rattle.layout.specs.laws.Indexes.{number-index}
 use Rattle.fields.specs.Values.{isOf, spoiled, unlessSpoiled, ofRecord, takenAs}
-use Rattle.fields.specs.laws.Spoiled.{Ruined, spoiled-ruined, ruined}
+use Rattle.fields.specs.laws.Spoiled.{ruinedAt, Ruined, spoiled-ruined, ruined}
 use Rattle.fields.specs.declared.Fields.{Fields}
 use Rattle.checker.specs.declared.Checker.{Checker}
 use Rattle.writer.specs.Given.{Call, openFile, openBatch, closeBatch, closeFile, recordsOf}
-use Rattle.writer.specs.Filling.{filled}
-use Rattle.writer.specs.inner.Placed.{expectedIn}
+use Rattle.filling.specs.Filling.{filled}
+use Rattle.writer.specs.Refusals.{expectedIn}
 use Rattle.writer.specs.Outcome.{answerOf}
-use Rattle.writer.specs.Calls.{Whole, AllWhole}
+use Rattle.fields.specs.Values.{Whole}
+use Rattle.writer.specs.Calls.{AllWhole}
 use Rattle.writer.specs.declared.Writer.{Writer}
 use Rattle.writer.specs.laws.Accepted.{kept, WellMade, Rights, more, none, rights}
-use Rattle.writer.specs.laws.Filled.{filled-text, not-filled}
+use Rattle.filling.specs.laws.Filled.{fillsBy, fillsAt, filled-text, not-filled}
 
 -- what is taken has whole arrays, as what was given
 pub whole-taken : (r : Record) {v : Fields} → Whole v → Whole (takenAs r v)
@@ -30,17 +35,16 @@ whole-taken r {v} h = go (isOf r v)
     go false = record { numbers = refl; text = refl }
 
 -- the writer fills none of what refuses spoiled fields
-still-ruined : (r : Record) (s : Checker) (v : Fields) → Ruined r v → Ruined r (filled r s v)
+still-ruined : (r : Record) (s : Checker) (v : Fields) → Ruined v → Ruined (filled r s v)
 unfolding fieldsOf indexOf before
-still-ruined FileHeader s v x = record { text = filled-text FileHeader s v ∙ x .text; number = not-filled FileHeader s v _ refl ∙ x .number }
-still-ruined BatchHeader s v x = record { text = filled-text BatchHeader s v ∙ x .text; number = not-filled BatchHeader s v _ refl ∙ x .number }
-still-ruined SegmentA s v x = record { text = filled-text SegmentA s v ∙ x .text; number = not-filled SegmentA s v _ refl ∙ x .number }
-still-ruined SegmentB s v x = record { text = filled-text SegmentB s v ∙ x .text; number = not-filled SegmentB s v _ refl ∙ x .number }
-still-ruined SegmentJ s v x = record { text = filled-text SegmentJ s v ∙ x .text; number = not-filled SegmentJ s v _ refl ∙ x .number }
-still-ruined SegmentJ52 s v x = record { text = filled-text SegmentJ52 s v ∙ x .text; number = not-filled SegmentJ52 s v _ refl ∙ x .number }
-still-ruined SegmentZ s v x = record { text = filled-text SegmentZ s v ∙ x .text; number = not-filled SegmentZ s v _ refl ∙ x .number }
-still-ruined BatchTrailer s v x = record { text = filled-text BatchTrailer s v ∙ x .text; number = not-filled BatchTrailer s v _ refl ∙ x .number }
-still-ruined FileTrailer s v x = record { text = filled-text FileTrailer s v ∙ x .text; number = not-filled FileTrailer s v _ refl ∙ x .number }
+still-ruined r s v x = record { text = filled-text r s v ∙ x .text; number = not-filled r s v ruinedAt (go (shapeOf r .line)) ∙ x .number }
+  where
+    go : (t : LineType) → fillsAt (fillsBy t r s) ruinedAt ≡ false
+    go FileFirst = refl
+    go BatchFirst = refl
+    go Detail = rw (number-index r)
+    go BatchLast = refl
+    go FileLast = refl
 
 -- so no record that they make is well made, in any state
 pub never-well-made : {A : Type 0} (r : Record) (s : Checker) → WellMade s (spoiled r) → A

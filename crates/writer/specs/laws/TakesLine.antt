@@ -20,7 +20,7 @@ use Rattle.checker.specs.laws.Meaning.{answered, LineRead, line-answers, LineAs
 use Rattle.checker.specs.laws.Details.{Limit}
 use Rattle.checker.specs.laws.Asks.{read-right}
 use Rattle.checker.specs.declared.Checker.{Checker}
-use Rattle.writer.specs.Filling.{bytesOf}
+use Rattle.filling.specs.Filling.{bytesOf}
 use Rattle.writer.specs.Refusals.{nextBy}
 use Rattle.writer.specs.laws.Accepted.{WellMade, Right}
 use Rattle.writer.specs.laws.Lines.{bytes-length, line-length}

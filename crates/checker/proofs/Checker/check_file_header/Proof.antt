@@ -1,14 +1,14 @@
 -- `checker::Checker::check_file_header` meets its contract: its rules, one after the other. Assumes nothing.
 use mathlib.Core.Path.{_∙_}
 use Rattle.answer.specs.laws.Order.{ahead}
-use Rattle.checker.specs.Line.{rulesAs}
+use Rattle.checker.specs.Line.{rulesOfType}
 use Rattle.checker.proofs.Fields.{file-header}
 use borrow.Author.Needs.{needs}
 use Rattle.checker.proofs.Checker.check_file_header.Statement.{statement}
 use Rattle.checker.proofs.Checker.check_file_header.Tie as tie
 
 returns : tie.Need-returns
-unfolding rulesAs
+unfolding rulesOfType
 returns c =
     let args = c .before .before .before .before .before .before .before .before in
     ahead (c .and-then2 .ensures) _ _ (c .before .before .before .before .test .ensures ∙ rw (c .before .before .before .before .before .all-digits .ensures))

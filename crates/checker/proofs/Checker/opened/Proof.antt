@@ -1,4 +1,4 @@
--- `checker::Checker::opened` meets its contract: the pair gives the kind of batch. Assumes nothing.
+-- `checker::Checker::opened` meets its contract. Assumes nothing.
 use borrow.Author.Needs.{needs}
 use Rattle.checker.proofs.Checker.opened.Statement.{statement}
 use Rattle.checker.proofs.Checker.opened.Tie as tie

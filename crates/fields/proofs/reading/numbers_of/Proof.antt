@@ -7,7 +7,7 @@ use lib.ListN.{length, length-set}
 use lib.Seq.{slice}
 use Rattle.layout.specs.inner.Lent.{fieldCount}
 use Rattle.layout.specs.Table.{fieldsOf, fieldsOfEach, all}
-use Rattle.layout.specs.laws.Columns.{laid, first-is, past-is, in-order, in-table}
+use Rattle.layout.specs.laws.Columns.{fields-there, first-is, past-is, in-order, in-table}
 use Rattle.fields.specs.Values.{mostFields}
 use Rattle.fields.specs.laws.Parts.{few, narrow}
 use Rattle.fields.proofs.Store.{storeFields, store-more, store-end, store-record}
@@ -48,7 +48,7 @@ returns c =
     let l = c .before .loop in
     let e = c .before .before .span-of .ensures in
     let r = c .before .before .before .before .args .which in
-    sym (store-end _ _ _ _ (l .numbers) (l .inv .1) (c .loop-test .left)) ∙ l .inv .5 ∙ store-record r _ _ (rw (first-is r e, past-is r e) (laid r .fields)) (few r)
+    sym (store-end _ _ _ _ (l .numbers) (l .inv .1) (c .loop-test .left)) ∙ l .inv .5 ∙ store-record r _ _ (rw (first-is r e, past-is r e) (fields-there r)) (few r)
 
 pub numbers-of-spec : {M : Type 1} → statement M
 numbers-of-spec =

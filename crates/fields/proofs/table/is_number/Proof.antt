@@ -3,7 +3,7 @@ use mathlib.Core.Path.{_≡_, sym, ap, _∙_}
 use borrow.Author.Needs.{needs}
 use borrow.Author.Tests.{lt-ltb, le-ltb}
 use Rattle.layout.specs.inner.Lent.{kindOf}
-use Rattle.layout.specs.Table.{Field}
+use Rattle.layout.specs.Field.{Field}
 use Rattle.layout.specs.Kinds.{means}
 use Rattle.layout.specs.laws.Columns.{in-record}
 use Rattle.fields.specs.Values.{heldAs, isNumber, isNumberAt}

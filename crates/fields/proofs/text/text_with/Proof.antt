@@ -4,7 +4,7 @@ use native.Mathlib.Omega.{arith}
 use borrow.Author.Needs.{needs}
 use borrow.Author.Tests.{lt-ltb, le-ltb}
 use Rattle.layout.specs.inner.Lent.{kindOf}
-use Rattle.layout.specs.Table.{Field, field}
+use Rattle.layout.specs.Field.{Field, field}
 use Rattle.layout.specs.laws.Columns.{in-record}
 use Rattle.fields.specs.Values.{overField}
 use Rattle.fields.proofs.Put.{put-over}

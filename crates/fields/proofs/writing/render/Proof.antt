@@ -9,7 +9,7 @@ use lib.Seq.{slice}
 use Rattle.layout.specs.inner.Lent.{fieldCount}
 use Rattle.layout.specs.Table.{recordBytes, all}
 use Rattle.layout.specs.laws.Bytes.{length-places}
-use Rattle.layout.specs.laws.Columns.{laid, first-is, past-is, in-order, in-table}
+use Rattle.layout.specs.laws.Columns.{fields-there, first-is, past-is, in-order, in-table}
 use Rattle.fields.specs.Values.{mostFields, recordOf}
 use Rattle.fields.specs.laws.Parts.{narrow}
 use Rattle.fields.proofs.Put.{putFields, put-more, put-end, put-record}
@@ -63,7 +63,7 @@ returns c =
     let e = c .before .before .span-of .ensures in
     let start = c .before .before .before .before .before .before in
     let r = start .args .v .which in
-    sym (put-end _ _ _ _ (l .out) (l .inv .1) (c .loop-test .left)) ∙ l .inv .6 ∙ put-record _ (l .inv .5) r _ _ _ (rw (first-is r e, past-is r e) (laid r .fields)) (start .pre .1)
+    sym (put-end _ _ _ _ (l .out) (l .inv .1) (c .loop-test .left)) ∙ l .inv .6 ∙ put-record _ (l .inv .5) r _ _ _ (rw (first-is r e, past-is r e) (fields-there r)) (start .pre .1)
 
 pub render-spec : {M : Type 1} → statement M
 render-spec =

@@ -13,24 +13,24 @@ use mathlib.Core.Path.{refl}
 use Rattle.writer.proofs.Writer.open_batch.Statement.{statement}
 use Rattle.writer.proofs.Writer.open_batch.Tie as tie
 
-turn-said : (c : tie.After-check-turn) → let a = c .before .before .before .before .before .before .args in c .check-turn .result ≡ firstBroken (turnRules (openBatch (a .v)) (a .self .checker))
+turn-said : (c : tie.After-check-turn) → let a = c .before .before .before .before .before .before .before .args in c .check-turn .result ≡ firstBroken (turnRules (openBatch (a .v)) (a .self .checker))
 turn-said c =
-    let a = c .before .before .before .before .before .before .args in
+    let a = c .before .before .before .before .before .before .before .args in
     c .check-turn .ensures
-    ∙ rw (c .before .before .turns-at .ensures, c .before .before .before .phase .ensures) (turn-is (a .self .checker) _ _ (c .before .batch-limits .ensures))
+    ∙ rw (c .before .before .before .turns-at .ensures, c .before .before .before .before .phase .ensures) (turn-is (a .self .checker) _ _ (rw (c .before .before .taken-as .ensures) at (c .before .batch-limits .ensures)))
 
 write-one-requires : tie.Need-write-one-requires
 write-one-requires c κs =
     λ t.
     let a = c .before .before .before .before .before .before .before .before .args in
-    let k = turned (openBatch (a .v)) (a .self .checker) (turn-said (c .before .before)) t in
-    rw (c .before .taken-as .ensures) (batch-may (a .self .checker) (k .0) (a .v) (k .1))
+    let k = turned (openBatch (a .v)) (a .self .checker) (turn-said (c .before)) t in
+    rw (c .before .before .before .taken-as .ensures) (batch-may (a .self .checker) (k .0) (a .v) (k .1))
 
 returns : tie.Need-returns
 returns c =
     let a = c .before .before .before .before .before .before .before .before .before .before .before .args in
-    whole-call (openBatch (a .v)) (turn-said (c .before .before .before .before .before))
-    (one-expected (takenAs BatchHeader (a .v)) ((BatchHeader ∷ []) ∷ []) _ refl (rw (c .before .before .before .before .taken-as .ensures) at (c .before .before .write-one .ensures)))
+    whole-call (openBatch (a .v)) (turn-said (c .before .before .before .before))
+    (one-expected (takenAs BatchHeader (a .v)) ((BatchHeader ∷ []) ∷ []) _ refl (rw (c .before .before .before .before .before .before .taken-as .ensures) at (c .before .before .write-one .ensures)))
 
 pub open-batch-spec : {M : Type 1} → statement M
 open-batch-spec =

@@ -15,7 +15,7 @@ turn-said c =
     c .check-turn .ensures
     ∙ rw (c .before .before .before .turns-at .ensures, c .before .before .before .before .phase .ensures)
     (turn-is (a .self .checker) _ _
-    (rw (c .before .before .count-of .ensures .0) at (c .before .payment-limits .ensures)))
+    (rw (c .before .before .records .ensures .0) at (c .before .payment-limits .ensures)))
 
 write-payment-requires : tie.Need-write-payment-requires
 write-payment-requires c κs =

@@ -13,8 +13,7 @@ use Rattle.writer.proofs.Held.{held-sound}
 use Rattle.writer.proofs.Lent.{whole, lent}
 use Rattle.writer.specs.Given.{recordsIn}
 use Rattle.writer.specs.Outcome.{cursorBehind}
-use Rattle.writer.specs.Refusals.{sumRule, size}
-use Rattle.writer.specs.inner.Placed.{expectedInPayment, allGiven}
+use Rattle.writer.specs.Refusals.{sumRule, size, expectedInPayment, allGiven}
 use Rattle.writer.specs.inner.Steps.{paymentRules, linesWith}
 use borrow.Author.Needs.{needs}
 use denote.Ref.{now}
@@ -40,7 +39,7 @@ answered c =
     (c .before .on-line .ensures
     ∙ rw (c .before .before .next-line .ensures, ok) (ap (onLine (lineOf m))
     (ahead (c .before .before .before .and-then .ensures) _ _ (c .before .before .before .before .before .before .check-sum .ensures)
-    (rw (c .before .before .before .before .before .before .before .size-of .ensures) at (c .before .before .before .before .room .ensures)))
+    (rw (c .before .before .before .before .before .before .before .records .ensures .0) at (c .before .before .before .before .room .ensures)))
     ∙ sym (first-on-line (lineOf m) last)))
 
 roomy : (c : tie.After-and-then2) → c .and-then2 .result ≡ Accepted → let a = c .before .before .before .before .before .before .before .before .before .before .before .before .before .args in cursorBehind (a .self) (recordsIn (a .p)) ≤ length (now (a .out))
@@ -66,30 +65,31 @@ try-payment-requires c κs = c .before .before .before .before .pre (c .before .
 check-sum-requires : tie.Need-check-sum-requires
 check-sum-requires c κs = held-sound _ (c .before .before .before .before .before .before .pre (c .before .before .before .enum-told .given .1) .is-held)
 
+mul-bytes : tie.Need-mul-bytes
+mul-bytes c = omega (arith, c .records .ensures)
+
 sub-put-payment : tie.Need-sub-put-payment
-sub-put-payment c = omega (arith, roomy (c .before .before .before .before .before .before) (c .before .before .before .before .enum-told4 .given .1))
+sub-put-payment c = omega (arith, roomy (c .before .before .before .before) (c .before .before .enum-told4 .given .1))
 
 part-put-payment-start : tie.Need-part-put-payment-start
-part-put-payment-start c = omega (arith, roomy (c .before .before .before .before .before .before) (c .before .before .before .before .enum-told4 .given .1))
+part-put-payment-start c = omega (arith, roomy (c .before .before .before .before) (c .before .before .enum-told4 .given .1))
 
 put-payment-requires : tie.Need-put-payment-requires
 put-payment-requires c κs =
-    let a = c .before .before .before .before .before .before .before .before .before .before .before .before .before .before .before .before .before .before .before .before .args in
-    let told = c .before .before .before .before .before .enum-told4 .given .1 in
-    let fits = roomy (c .before .before .before .before .before .before .before) told in
-    let tried = c .before .before .before .before .before .before .before .before .before .before .before .before .before .before .before .try-payment .ensures in (
-      tried .right (all-right (c .before .before .before .before .before .before .before) told),
-      rw (whole (a .self .cursor) (now (a .out)) (omega arith), length-drop) (omega arith),
+    let y = c .before .before .before .before .before in
+    let a = y .before .before .before .before .before .before .before .before .before .before .before .before .before .args in
+    let told = c .before .before .before .enum-told4 .given .1 in
+    let fits = roomy y told in
+    let count = y .before .before .before .before .before .before .before .records .ensures in
+    let tried = y .before .before .before .before .before .before .before .before .try-payment .ensures in (
+      (count .1, tried .places),
+      (rw (count .0) (tried .right (all-right y told)), rw (count .0, whole (a .self .cursor) (now (a .out)) (omega arith), length-drop) (omega arith)),
     )
 
-add-t24 : tie.Need-add-t24
-add-t24 c =
-    rw (c .before .before .before .before .before .before .before .before .before .before .before .before .before .before .before .before .before .size-of .ensures)
-    (omega (
-      arith,
-      roomy (c .before .before .before .before .before .before .before .before .before .before) (c .before .before .before .before .before .before .before .before .enum-told4 .given .1),
-      c .before .before .before .before .before .before .before .before .before .before .before .before .before .before .before .before .before .before .before .before .before .before .before .good .1 .1 .1 .0 .0,
-    ))
+add-t23 : tie.Need-add-t23
+add-t23 c =
+    let y = c .before .before .before .before .before .before .before .before in
+    rw (y .before .before .before .before .before .before .before .records .ensures .0) (omega (arith, roomy y (c .before .before .before .before .before .before .enum-told4 .given .1), y .before .before .before .before .before .before .before .before .before .before .before .before .before .good .1 .1 .1 .0 .0))
 
 returns-2 : tie.Need-returns-2
 returns-2 c =
@@ -97,19 +97,19 @@ returns-2 c =
 
 returns-3 : tie.Need-returns-3
 returns-3 c =
-    let a = c .before .before .before .before .before .before .before .before .before .before .before .before .before .before .before .before .before .before .before .before .before .before .before .args in
+    let y = c .before .before .before .before .before .before .before .before in
+    let a = y .before .before .before .before .before .before .before .before .before .before .before .before .before .args in
     let out = now (a .out) in
-    let n = size (length (recordsIn (a .p))) in
-    let told = c .before .before .before .before .before .before .before .before .enum-told4 .given .1 in
-    let fits = roomy (c .before .before .before .before .before .before .before .before .before .before) told in
-    let tried = c .before .before .before .before .before .before .before .before .before .before .before .before .before .before .before .before .before .before .try-payment .ensures in
-    let right = all-right (c .before .before .before .before .before .before .before .before .before .before) told in
-    let paid = c .before .before .before .before .before .before .before .before .before .before .before .before .before .before .before .before .before .before .try-payment .result in
-    accepts _ _ _ (c .before .before .before .before .before .before .before .before .before .before .before .before .before .before .before .before .before .before .before .before .enum-told .given .1)
-    (answered (c .before .before .before .before .before .before .before .before .before .before)) told (tried .moved right)
-    (rw (c .before .before .before .before .before .before .before .before .before .before .before .before .before .before .before .before .before .size-of .ensures))
-    (lent (a .self .cursor) out (omega arith) n (flatten (linesWith (a .p) (paid .first) (paid .second) (paid .third))) _ (c .before .before .put-payment .ensures)
-    ∙ ap (λ (l : List (List ℕ)). take (a .self .cursor) out ++ (flatten l ++ drop (a .self .cursor + n) out)) (tried .made right))
+    let n = length (recordsIn (a .p)) in
+    let told = c .before .before .before .before .before .before .enum-told4 .given .1 in
+    let fits = roomy y told in
+    let count = y .before .before .before .before .before .before .before .records .ensures .0 in
+    let tried = y .before .before .before .before .before .before .before .before .try-payment .ensures in
+    let right = all-right y told in
+    let paid = y .before .before .before .before .before .before .before .before .try-payment .result in
+    accepts _ _ _ (y .before .before .before .before .before .before .before .before .before .before .enum-told .given .1) (answered y) told (tried .moved right) (rw count)
+    (lent (a .self .cursor) out (omega arith) (size n) (flatten (linesWith (take n (paid .made)))) _ (rw count at (c .before .before .put-payment .ensures))
+    ∙ ap (λ (l : List (List ℕ)). take (a .self .cursor) out ++ (flatten l ++ drop (a .self .cursor + size n) out)) (tried .made right))
 
 pub write-payment-spec : {M : Type 1} → statement M
 write-payment-spec =
@@ -120,6 +120,7 @@ write-payment-spec =
     returns
     try-payment-requires
     (λ c κs. search needs)
+    mul-bytes
     check-sum-requires
     (λ c κs. search needs)
     (λ c κs. search needs)
@@ -132,7 +133,7 @@ write-payment-spec =
     part-put-payment-start
     (λ c. search needs)
     put-payment-requires
-    add-t24
+    add-t23
     (λ c. search needs)
     returns-2
     (λ c. search needs)

@@ -6,7 +6,7 @@ use Rattle.writer.proofs.payments.is_z.Statement.{statement}
 use Rattle.writer.proofs.payments.is_z.Tie as tie
 
 returns-2 : tie.Need-returns-2
-returns-2 c = rw (c .before .enum-told2 .given .1) (c .is .ensures ∙ or-none _)
+returns-2 c = rw (c .before .enum-told2 .given .1) (c .is-same .ensures ∙ or-none _)
 
 pub is-z-spec : {M : Type 1} → statement M
 is-z-spec =

@@ -1,48 +1,80 @@
--- `writer::payments::try_payment` meets its contract. Assumes nothing.
-use Rattle.checker.specs.Order.{first}
-use Rattle.writer.proofs.Trying.{was-expected, payment-stopped, payment-gone-on}
-use Rattle.writer.specs.laws.TakesCall.{first-may, second-may, third-may}
+-- `writer::payments::try_payment` meets its contract: position by position. Assumes nothing.
+use mathlib.Core.Path.{refl}
+use Prim.Native.Nat.{_-_, _<_}
+use native.Mathlib.Omega.{arith}
+use lib.ListN.{length}
 use borrow.Author.Needs.{needs}
+use Rattle.writer.specs.Given.{recordsIn}
+use Rattle.writer.specs.inner.Steps.{nthIn, expectedAt, Tries}
+use Rattle.writer.specs.laws.Paying.{may-try}
+use Rattle.writer.proofs.Trying.{Going, going-first, going-stopped, going-on, gone-through}
 use Rattle.writer.proofs.payments.try_payment.Statement.{statement}
 use Rattle.writer.proofs.payments.try_payment.Tie as tie
 
-try-record-requires : tie.Need-try-record-requires
-try-record-requires c κs =
-    let start = c .before .before .before .before in
-    rw (c .begins .ensures, c .before .before .batch .ensures) (first-may (start .pre) (start .args .p .first))
+abbrev Inv-loop : tie.InvT-loop
+Inv-loop p dir batch count made₀ checker₀ k₀ made checker k = Going checker₀ p made checker k
 
-try-later-requires : tie.Need-try-later-requires
-try-later-requires c κs =
-    let a = c .before .before .before .before .before .before .before .before .before .args in
-    let k = c .before .before .before .before .before .before .before .before .before .pre in
-    let h = (rw (c .before .before .before .before .before .begins .ensures, c .before .before .before .before .before .before .before .batch .ensures) at (c .before .before .before .before .try-record .ensures)) in
-    let expected = was-expected (a .m) (a .p .first) (first (a .m .batch)) h (c .enum-told2 .given .1) in
-    rw (h .moved (c .enum-told2 .given .1), c .before .before .before .before .before .before .before .batch .ensures, c .before .before .before .before .before .before .before .before .direction .ensures)
-    (second-may k (a .p .first) expected (a .p .second), λ q. third-may k (a .p .first) expected (a .p .second) q (a .p .third))
+abbrev μ-loop : tie.MeasureT-loop
+μ-loop p dir batch count made₀ checker₀ k₀ made checker k = count - k
 
-returns : tie.Need-returns
-returns c =
-    let a = c .before .before .before .before .before .before .before .before .before .args in
-    payment-stopped (a .m) (a .p)
-    (rw (c .before .before .before .before .before .begins .ensures, c .before .before .before .before .before .before .before .batch .ensures) at (c .before .before .before .before .try-record .ensures)) _ (c .enum-told .given .1)
+loop-holds : tie.Need-loop-holds Inv-loop μ-loop
+loop-holds c = let start = c .before .before .before .before in going-first (start .args .p) _ (start .pre) refl
 
-returns-2 : tie.Need-returns-2
-returns-2 c =
-    let a = c .before .before .before .before .before .before .before .before .before .before .args in
-    payment-gone-on (a .m) (a .p)
-    (rw (c .before .before .before .before .before .before .begins .ensures, c .before .before .before .before .before .before .before .before .batch .ensures) at (c .before .before .before .before .before .try-record .ensures)) (c .before .enum-told2 .given .1)
-    (rw (c .before .before .before .before .before .before .before .before .before .direction .ensures, c .before .before .before .before .before .before .before .before .batch .ensures) at (c .try-later .ensures))
+try-at-requires : tie.Need-try-at-requires Inv-loop μ-loop
+try-at-requires c κs =
+    let start = c .before .before .before .before .before .before in (
+      omega (arith, c .before .before .before .records .ensures),
+      rw (c .before .before .before .before .before .direction .ensures, c .before .before .before .before .batch .ensures)
+          (may-try (c .before .loop .inv .stands) (nthIn (c .before .loop .k) (start .args .p) .which)),
+    )
+
+-- the record that was tried, and that there was one more
+more : (c : tie.After-try-at Inv-loop μ-loop) → c .before .before .loop .k < length (recordsIn (c .before .before .before .before .before .before .before .args .p))
+more c = omega (arith, c .before .before .before .before .records .ensures)
+
+tried : (c : tie.After-try-at Inv-loop μ-loop) → let a = c .before .before .before .before .before .before .before .args in let l = c .before .before .loop in
+    Tries (expectedAt (l .k) (a .m .dir) (a .m .batch) (nthIn (l .k) (a .p) .which)) (l .checker) (nthIn (l .k) (a .p)) (c .try-at .result)
+tried c = rw (c .before .before .before .before .before .before .direction .ensures, c .before .before .before .before .before .batch .ensures) at (c .try-at .ensures)
+
+returns : tie.Need-returns Inv-loop μ-loop
+returns c = let y = c .before .before .before .before in going-stopped (y .before .before .loop .inv) (more y) (tried y) _ (c .enum-told2 .given .1)
+
+mul-made : tie.Need-mul-made Inv-loop μ-loop
+mul-made c = omega (arith, c .before .before .before .before .before .before .before .before .records .ensures)
+
+array-set-from-made : tie.Need-array-set-from-made Inv-loop μ-loop
+array-set-from-made c = omega (arith, c .before .before .before .before .before .before .before .before .records .ensures)
+
+add-k : tie.Need-add-k Inv-loop μ-loop
+add-k c = omega (arith, c .before .before .before .before .before .before .before .before .records .ensures)
+
+loop-less : tie.Need-loop-less Inv-loop μ-loop
+loop-less c = omega (arith, c .before .before .before .before .before .before .before .before .records .ensures)
+
+loop-again : tie.Need-loop-again Inv-loop μ-loop
+loop-again c = let y = c .before .before .before .before in going-on (y .before .before .loop .inv) (more y) (tried y) (c .enum-told .given .1)
+
+returns-2 : tie.Need-returns-2 Inv-loop μ-loop
+returns-2 c = gone-through (c .before .loop .inv) (omega (arith, c .before .before .before .records .ensures))
 
 pub try-payment-spec : {M : Type 1} → statement M
 try-payment-spec =
     tie.close
     (tie.spec
+    Inv-loop
+    μ-loop
     (λ c κs. search needs)
     (λ c κs. search needs)
     (λ c κs. search needs)
-    try-record-requires
+    (λ c κs. search needs)
+    loop-holds
+    try-at-requires
     (λ c. search needs)
     (λ c. search needs)
-    try-later-requires
     returns
+    mul-made
+    array-set-from-made
+    add-k
+    loop-less
+    loop-again
     returns-2)

@@ -4,17 +4,13 @@ use borrow.Author.Needs.{needs}
 use lib.ListN.{length-map}
 use Rattle.fields.specs.Values.{madeOf}
 use Rattle.fields.specs.declared.Fields.{Fields}
-use Rattle.checker.specs.laws.Bounds.{bounded}
-use Rattle.writer.specs.Filling.{filled}
-use Rattle.writer.specs.Calls.{Whole}
-use Rattle.writer.specs.laws.Filled.{filled-which}
+use Rattle.filling.specs.Filling.{filled}
+use Rattle.fields.specs.Values.{Whole}
+use Rattle.filling.specs.laws.Filled.{filled-which}
 use Rattle.writer.specs.inner.Steps.{kindAnswer}
 use Rattle.writer.proofs.Trying.{tried-refused, tried-accepted}
 use Rattle.writer.proofs.records.try_record.Statement.{statement}
 use Rattle.writer.proofs.records.try_record.Tie as tie
-
-fill-requires : tie.Need-fill-requires
-fill-requires c κs = bounded _ (c .pre .is-sound)
 
 -- the fields are whole, as the types say
 whole : (c : tie.Start) → Whole (c .args .v)
@@ -22,12 +18,16 @@ whole c =
     let held = c .good .1 .1 .0 in
     record { numbers = simp length-map at (held .1 .1 .1 .0 .1 .0 .1); text = simp length-map at (held .1 .1 .1 .1 .0 .1 .0 .1) }
 
+-- a sound state is filled in
+filled-in : (c : tie.After-fill) → let a = c .before .args in c .fill .result ≡ filled (a .v .which) (a .m) (a .v)
+filled-in c = c .fill .ensures ∙ rw (c .before .pre .is-sound)
+
 -- the record that is made, and its check
 made : (c : tie.After-check) → let a = c .before .before .before .before .args in
     c .before .make-record .result ≡ madeOf (a .v .which) (a .m .dir) (filled (a .v .which) (a .m) (a .v))
 made c =
     let a = c .before .before .before .before .args in
-    c .before .make-record .ensures ∙ rw (c .before .before .direction .ensures, c .before .before .before .fill .ensures, filled-which (a .v .which) (a .m) (a .v))
+    c .before .make-record .ensures ∙ rw (c .before .before .direction .ensures, filled-in (c .before .before .before), filled-which (a .v .which) (a .m) (a .v))
 
 right : (c : tie.After-check) → let a = c .before .before .before .before .args in
     c .check .result ≡ kindAnswer (a .expected) (c .before .make-record .result) (filled (a .v .which) (a .m) (a .v)) (a .v .which)
@@ -35,7 +35,7 @@ right c =
     let a = c .before .before .before .before .args in
     let m = c .before .make-record .result in
     c .check .ensures
-    ∙ ap (λ (x : Fields). kindAnswer (a .expected) m x (x .which)) (c .before .before .before .fill .ensures)
+    ∙ ap (λ (x : Fields). kindAnswer (a .expected) m x (x .which)) (filled-in (c .before .before .before))
     ∙ ap (kindAnswer (a .expected) m (filled (a .v .which) (a .m) (a .v))) (filled-which (a .v .which) (a .m) (a .v))
 
 returns : tie.Need-returns
@@ -58,7 +58,7 @@ pub try-record-spec : {M : Type 1} → statement M
 try-record-spec =
     tie.close
     (tie.spec
-    fill-requires
+    (λ c κs. search needs)
     (λ c κs. search needs)
     (λ c κs. search needs)
     (λ c κs. search needs)

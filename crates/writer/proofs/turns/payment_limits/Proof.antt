@@ -12,7 +12,7 @@ use Rattle.writer.proofs.turns.payment_limits.Tie as tie
 returns : tie.Need-returns
 returns c =
     ahead (c .and-then .ensures) _ _
-    (c .before .before .before .before .test .ensures ∙ rw (c .before .before .before .before .before .before .current .ensures, below))
+    (c .before .before .before .before .test .ensures ∙ rw (c .before .before .before .before .before .payments .ensures, c .before .before .before .before .before .before .current .ensures, below))
     (c .before .test2 .ensures ∙ rw (c .before .before .fits-file .ensures, c .before .before .before .plus .ensures, fits (c .before .before .before .before .before .before .before .args .details .0 + 2) (omega arith)))
 
 pub payment-limits-spec : {M : Type 1} → statement M
@@ -21,7 +21,8 @@ payment-limits-spec =
     (tie.spec
     (λ c κs. search needs)
     (λ c κs. search needs)
-    (λ c. search needs)
+    (λ c κs. search needs)
+    (λ c κs. search needs)
     (λ c κs. search needs)
     (λ c κs. search needs)
     (λ c κs. search needs)

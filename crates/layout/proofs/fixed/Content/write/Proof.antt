@@ -8,7 +8,7 @@ use Rattle.answer.specs.Output.{over}
 use Rattle.layout.specs.inner.Lent.{contentOf}
 use Rattle.layout.specs.laws.Bytes.{over-all, over-end-out}
 use Rattle.layout.specs.laws.Contents.{length-tab}
-use Rattle.layout.proofs.Rounds.{written-more}
+use Rattle.layout.proofs.Written.{written-more}
 use Rattle.layout.proofs.fixed.Content.write.Statement.{statement}
 use Rattle.layout.proofs.fixed.Content.write.Tie as tie
 

@@ -1,0 +1,4 @@
+-- What is proved of the definitions, for other crates to cite.
+pub mod Runs
+pub mod Ends
+pub mod Verdict

@@ -1,0 +1,2 @@
+-- What is proved of the definitions, for other crates to cite.
+pub mod Filled

@@ -1,0 +1,3 @@
+-- Laws on plain values, for the proofs of this crate's functions.
+mod Rows
+mod Rounds
