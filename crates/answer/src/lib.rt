@@ -37,7 +37,7 @@ pub const FILE_CENTS: Cents = Cents(1000000000000000000);
 const FILE_RECORDS: RecordCount = RecordCount(999999);
 
 // The sum, or the largest number where that does not fit.
-fn capped_sum(a: u64, b: u64) -> u64
+pub fn capped_sum(a: u64, b: u64) -> u64
     ensures { λ r. ⌜ r ≡ capped (a + b) ⌝ }
 {
     if b <= u64::MAX - a { a + b } else { u64::MAX }

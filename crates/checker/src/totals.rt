@@ -1,4 +1,5 @@
-// What lines count: batches, records, payments and cents.
+// What lines count: batches and records, and payments with the sum of their amounts, the live ones
+// and the withdrawn ones apart.
 use answer::Cents;
 use answer::RecordCount;
 use layout::Amount;
@@ -6,22 +7,38 @@ use layout::LineType;
 use layout::Shape;
 use layout::places;
 ghost use mathlib.Core.Path.{_≡_};
+ghost use mathlib.Core.Bool.{true};
 ghost use Prim.Native.Nat.{_+_, _-_, _≤_, _<_, _^_};
 ghost use lib.ListN.{length, take, drop};
+ghost use Rattle.answer.specs.Sums.{capped};
 ghost use Rattle.digits.specs.Numbers.{value};
 ghost use Rattle.layout.specs.Table.{recordBytes};
 ghost use Rattle.layout.specs.Records.{amountField};
-ghost use Rattle.checker.specs.Totals.{totals, none, add, batchCount, recordCount, paymentCount, centSum, opens, centsIn, countsBy, amountDigits};
-ghost use Rattle.checker.specs.inner.Steps.{FitSum};
+ghost use Rattle.checker.specs.Totals.{noPayments, none, addTally, add, batchCount, recordCount, paymentCount, centSum, opens, centsIn, withdraws, only, tallied, countsBy, amountDigits};
+ghost use Rattle.checker.specs.inner.Steps.{FitTally, FitSum};
 
-pub struct Totals {
-    pub(crate) batches: u64,
-    pub(crate) records: RecordCount,
+// Payments, and the sum of their amounts.
+pub struct Tally {
     pub(crate) payments: u64,
     pub(crate) cents: Cents,
 }
 
+// Those of the live payments, and those of the withdrawn ones, each a type of its own.
+pub struct Live(pub(crate) Tally);
+
+pub struct Withdrawn(pub(crate) Tally);
+
+pub struct Totals {
+    pub(crate) batches: u64,
+    pub(crate) records: RecordCount,
+    pub(crate) live: Live,
+    pub(crate) withdrawn: Withdrawn,
+}
+
 const AMOUNT_DIGITS: usize = 15;
+
+// The movement that withdraws a payment.
+const WITHDRAWAL: u8 = b'9';
 
 // An amount, from this place on.
 pub(crate) fn amount(rec: &[u8], place: usize) -> Cents
@@ -30,6 +47,66 @@ pub(crate) fn amount(rec: &[u8], place: usize) -> Cents
     ensures { λ r. ⌜ (r .0 ≡ value (take amountDigits (drop (place - 1) (now (rec .entry))))) × (r .0 < 10 ^ amountDigits) ⌝ }
 {
     Cents(digits::value(&rec[place - 1..place - 1 + AMOUNT_DIGITS]))
+}
+
+impl Tally {
+    fn none() -> Tally
+        ensures { λ r. ⌜ r ≡ noPayments ⌝ }
+    {
+        Tally {
+            payments: 0,
+            cents: Cents(0),
+        }
+    }
+
+    fn plus(self, more: Tally) -> Tally
+        requires { ⌜ FitTally self more ⌝ }
+        ensures { λ r. ⌜ r ≡ addTally self more ⌝ }
+    {
+        Tally {
+            payments: self.payments + more.payments,
+            cents: self.cents.plus(more.cents),
+        }
+    }
+
+    // All of these, or none.
+    fn only(self, such: bool) -> Tally
+        ensures { λ r. ⌜ r ≡ only such self ⌝ }
+    {
+        if such { self } else { Tally::none() }
+    }
+}
+
+impl Live {
+    // How many they are.
+    pub fn payments(self) -> u64
+        ensures { λ r. ⌜ r ≡ self .0 .payments ⌝ }
+    {
+        self.0.payments
+    }
+
+    // The sum of their amounts.
+    pub fn cents(self) -> Cents
+        ensures { λ r. ⌜ r ≡ self .0 .cents ⌝ }
+    {
+        self.0.cents
+    }
+}
+
+impl Withdrawn {
+    // How many they are.
+    pub fn payments(self) -> u64
+        ensures { λ r. ⌜ r ≡ self .0 .payments ⌝ }
+    {
+        self.0.payments
+    }
+
+    // The sum of their amounts.
+    pub fn cents(self) -> Cents
+        ensures { λ r. ⌜ r ≡ self .0 .cents ⌝ }
+    {
+        self.0.cents
+    }
 }
 
 impl Totals {
@@ -47,47 +124,56 @@ impl Totals {
         self.records
     }
 
-    // The payments.
+    // The live payments.
+    pub fn live(self) -> Live
+        ensures { λ r. ⌜ r ≡ self .live ⌝ }
+    {
+        self.live
+    }
+
+    // The withdrawn payments.
+    pub fn withdrawn(self) -> Withdrawn
+        ensures { λ r. ⌜ r ≡ self .withdrawn ⌝ }
+    {
+        self.withdrawn
+    }
+
+    // The payments, live and withdrawn together. A sum that does not fit 64 bits stays at the largest
+    // number; no file's does.
     pub fn payments(self) -> u64
-        ensures { λ r. ⌜ r ≡ paymentCount self ⌝ }
+        ensures { λ r. ⌜ r ≡ capped (paymentCount self) ⌝ }
     {
-        self.payments
+        answer::capped_sum(self.live.0.payments, self.withdrawn.0.payments)
     }
 
-    // The sum of their amounts.
+    // The sum of all their amounts, capped like that.
     pub fn cents(self) -> Cents
-        ensures { λ r. ⌜ r .0 ≡ centSum self ⌝ }
+        ensures { λ r. ⌜ r .0 ≡ capped (centSum self) ⌝ }
     {
-        self.cents
-    }
-
-    pub(crate) fn of(batches: u64, records: RecordCount, payments: u64, cents: Cents) -> Totals
-        ensures { λ r. ⌜ r ≡ totals batches (records .0) payments (cents .0) ⌝ }
-    {
-        Totals {
-            batches,
-            records,
-            payments,
-            cents,
-        }
+        self.live.0.cents.plus(self.withdrawn.0.cents)
     }
 
     pub(crate) fn none() -> Totals
         ensures { λ r. ⌜ r ≡ none ⌝ }
     {
-        Totals::of(0, RecordCount(0), 0, Cents(0))
+        Totals {
+            batches: 0,
+            records: RecordCount(0),
+            live: Live(Tally::none()),
+            withdrawn: Withdrawn(Tally::none()),
+        }
     }
 
     pub(crate) fn plus(self, more: Totals) -> Totals
         requires { ⌜ FitSum self more ⌝ }
         ensures { λ r. ⌜ r ≡ add self more ⌝ }
     {
-        Totals::of(
-            self.batches + more.batches,
-            self.records.plus(more.records),
-            self.payments + more.payments,
-            self.cents.plus(more.cents),
-        )
+        Totals {
+            batches: self.batches + more.batches,
+            records: self.records.plus(more.records),
+            live: Live(self.live.0.plus(more.live.0)),
+            withdrawn: Withdrawn(self.withdrawn.0.plus(more.withdrawn.0)),
+        }
     }
 }
 
@@ -125,6 +211,25 @@ fn cents_by(kind: Amount, rec: &[u8]) -> Cents
     }
 }
 
+// The payment that a line begins, with its amount, whatever its movement.
+fn tally_by(amount: Amount, rec: &[u8]) -> Tally
+    requires { ⌜ length (now rec) ≡ recordBytes ⌝ }
+    ensures { λ r. ⌜ r ≡ tallied true (amountField amount) (now (rec .entry)) ⌝ }
+{
+    Tally {
+        payments: payments_by(amount),
+        cents: cents_by(amount, rec),
+    }
+}
+
+// Movement 9 withdraws a payment.
+fn withdraws(rec: &[u8]) -> bool
+    requires { ⌜ length (now rec) ≡ recordBytes ⌝ }
+    ensures { λ r. ⌜ r ≡ withdraws (now (rec .entry)) ⌝ }
+{
+    rec[places::MOVEMENT - 1] == WITHDRAWAL
+}
+
 // What a line counts, by its row.
 pub(crate) fn counted(shape: Shape, rec: &[u8]) -> Totals
     requires { ⌜ length (now rec) ≡ recordBytes ⌝ }
@@ -132,10 +237,12 @@ pub(crate) fn counted(shape: Shape, rec: &[u8]) -> Totals
 {
     let line = shape.line;
     let amount = shape.amount;
-    Totals::of(
-        batches_by(line),
-        RecordCount(1),
-        payments_by(amount),
-        cents_by(amount, rec),
-    )
+    let tally = tally_by(amount, rec);
+    let withdrawn = withdraws(rec);
+    Totals {
+        batches: batches_by(line),
+        records: RecordCount(1),
+        live: Live(tally.only(!withdrawn)),
+        withdrawn: Withdrawn(tally.only(withdrawn)),
+    }
 }

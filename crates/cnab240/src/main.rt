@@ -1,6 +1,6 @@
-// Checks the file on standard input and prints one line: `OK batches records payments cents`, or
-// `NO number line place`. Every rule stands in the library; here the input is read and the answer
-// printed.
+// Checks the file on standard input and prints one line: `OK batches records payments cents payments
+// cents`, the live payments before the withdrawn ones, or `NO number line place`. Every rule stands in
+// the library; here the input is read and the answer printed.
 mod input;
 
 use checker::Checker;

@@ -89,6 +89,10 @@ formField = field 12 13 Form
 abbrev pub directionField : Field
 directionField = field 143 143 oneTwo
 
+-- the movement of a payment, in each record that has an amount: 0, or 9, which withdraws it
+abbrev pub movementField : Field
+movementField = field 15 15 zeroNine
+
 -- what a boleto pays by, beside its amount
 abbrev pub barcodeField : Field
 barcodeField = field 18 61 Barcode
@@ -130,12 +134,12 @@ own BatchHeader =
     field 9 9 exactC ∷ serviceField ∷ formField ∷ field 14 16 N ∷ field 17 17 K ∷ company
     ++ field 103 142 T ∷ field 143 172 T ∷ field 173 177 F ∷ field 178 192 T ∷ field 193 212 T ∷ field 213 230 F ∷ field 231 240 O ∷ []
 own SegmentA =
-    field 15 15 zeroNine ∷ field 16 17 N ∷ field 18 20 N ∷ field 21 23 N ∷ field 24 28 N ∷ field 29 29 F ∷ field 30 41 N ∷ field 42 42 F
+    movementField ∷ field 16 17 N ∷ field 18 20 N ∷ field 21 23 N ∷ field 24 28 N ∷ field 29 29 F ∷ field 30 41 N ∷ field 42 42 F
     ∷ field 43 43 F ∷ field 44 73 T ∷ field 74 93 T ∷ field 94 101 D ∷ field 102 104 F ∷ field 105 119 N ∷ creditAmount ∷ field 135 154 F
     ∷ field 155 162 N ∷ field 163 177 N ∷ field 178 230 F ∷ field 231 240 O ∷ []
 own SegmentB = field 15 17 F ∷ field 18 18 zeroOneTwo ∷ field 19 32 Id ∷ field 33 240 F ∷ []
 own SegmentJ =
-    field 15 15 zeroNine ∷ field 16 17 N ∷ barcodeField ∷ field 62 91 T ∷ dueField ∷ nominalField ∷ discountField ∷ fineField
+    movementField ∷ field 16 17 N ∷ barcodeField ∷ field 62 91 T ∷ dueField ∷ nominalField ∷ discountField ∷ fineField
     ∷ field 145 152 D ∷ boletoAmount ∷ field 168 182 Zeros ∷ field 183 202 T ∷ field 203 222 F ∷ field 223 224 exact09
     ∷ field 225 230 K ∷ field 231 240 O ∷ []
 own SegmentJ52 =

@@ -22,6 +22,9 @@ pub const NUMBER_TO: usize = 13;
 
 pub const SEGMENT: usize = 14;
 
+// Details that have an amount.
+pub const MOVEMENT: usize = 15;
+
 // Headers.
 pub const SERVICE_FROM: usize = 10;
 

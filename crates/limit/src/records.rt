@@ -10,6 +10,11 @@ const REMITTANCE: u64 = 1;
 // DDMMAAAA
 const TODAY: u64 = 16112026;
 
+// Movements: a payment is live, or withdrawn.
+pub(crate) const LIVE: u64 = 0;
+
+pub(crate) const WITHDRAWN: u64 = 9;
+
 const SUPPLIERS: u64 = 20;
 
 const TRANSFER: u64 = 41;
@@ -28,8 +33,9 @@ pub(crate) fn batch_header() -> Fields {
         .with_text(names::BATCH_HEADER_ID, b"00000000000000")
 }
 
-pub(crate) fn credit(cents: Cents) -> Fields {
+pub(crate) fn credit(movement: u64, cents: Cents) -> Fields {
     Fields::blank(Record::SegmentA)
+        .with_number(names::A_MOVEMENT, movement)
         .with_number(names::A_DATE, TODAY)
         .with_cents(names::A_AMOUNT, cents)
 }

@@ -18,9 +18,11 @@ use Rattle.layout.specs.declared.Record.{Record}
 use Rattle.layout.specs.declared.Record.the-variants.{FileHeader, BatchHeader, SegmentZ, BatchTrailer, FileTrailer}
 use Rattle.layout.specs.declared.pairs.Batch.{Batch}
 use Rattle.checker.specs.Order.{payment}
-use Rattle.checker.specs.Totals.{totals, none, add, centsOf, batchCount, paymentCount, centSum}
+use Rattle.checker.specs.Totals.{noPayments, live, withdrawn, totals, none, addLive, addWithdrawn, add, liveOf, withdrawnOf, centsOf, batchCount, centSum}
 use Rattle.checker.specs.Line.{recordIn, houseRules, mostBatches, mostPayments, headerBatch, trailerBatch, lineFrom}
 use Rattle.checker.specs.Machine.{directionOf}
+use Rattle.checker.specs.declared.totals.Live.{Live}
+use Rattle.checker.specs.declared.totals.Withdrawn.{Withdrawn}
 use Rattle.checker.specs.declared.totals.Totals.{Totals}
 
 -- ---- a line
@@ -62,13 +64,24 @@ pub data Details (d : Direction) (bank batch : ℕ) : ℕ → List Record → Li
       → Numbered r d bank batch l → Reads numberField n l → Details d bank batch (n + 1) rs ls c
       → Details d bank batch n (r ∷ rs) (l ∷ ls) (centsOf r (recordIn l) + c)
 
+-- of such lines the live payments, and the withdrawn ones: each a sum over the records
+unfoldable pub liveAmong : List Record → List (List ℕ) → Live
+liveAmong [] ls = live noPayments
+liveAmong (r ∷ rs) [] = live noPayments
+liveAmong (r ∷ rs) (l ∷ ls) = addLive (liveOf r (recordIn l)) (liveAmong rs ls)
+
+unfoldable pub withdrawnAmong : List Record → List (List ℕ) → Withdrawn
+withdrawnAmong [] ls = withdrawn noPayments
+withdrawnAmong (r ∷ rs) [] = withdrawn noPayments
+withdrawnAmong (r ∷ rs) (l ∷ ls) = addWithdrawn (withdrawnOf r (recordIn l)) (withdrawnAmong rs ls)
+
 -- ---- batches
 
 -- the kind that a batch header's service and form name
 abbrev pub kindIn : Direction → List ℕ → Batch
 kindIn d header = batchOf d (part serviceField (recordIn header)) (part formField (recordIn header))
 
--- a header, one or more payments, a trailer that counts the batch's records and sums its amounts
+-- a header, one or more payments, a trailer that counts the batch's records and sums its amounts, withdrawn ones too
 pub record RightBatch (d : Direction) (bank ordinal : ℕ) (ls : List (List ℕ)) (t : Totals) : Type 0 where
   pub header : List ℕ
   pub details : List (List ℕ)
@@ -85,7 +98,7 @@ pub record RightBatch (d : Direction) (bank ordinal : ℕ) (ls : List (List ℕ)
   pub trailer-right : Numbered BatchTrailer d bank ordinal trailer
   pub counted : Reads batchRecords (length ls) trailer
   pub summed : Reads batchSum cents trailer
-  pub are : t ≡ totals 1 (length ls) payments cents
+  pub are : t ≡ totals 1 (length ls) (liveAmong records details) (withdrawnAmong records details)
 
 -- one after the other, behind n others
 pub data Batches (d : Direction) (bank : ℕ) : ℕ → List (List ℕ) → Totals → Type 0 where
@@ -113,7 +126,7 @@ pub record RightFile (ls : List (List ℕ)) (t : Totals) : Type 0 where
   pub trailer-right : Numbered FileTrailer direction bank trailerBatch trailer
   pub batches-counted : Reads fileBatches (batchCount inside) trailer
   pub records-counted : Reads fileRecords (length ls) trailer
-  pub are : t ≡ totals (batchCount inside) (length ls) (paymentCount inside) (centSum inside)
+  pub are : t ≡ totals (batchCount inside) (length ls) (inside .live) (inside .withdrawn)
 
 -- bytes that are the lines of such a file, joined
 pub record Meets (bytes : List ℕ) (t : Totals) : Type 0 where
@@ -135,3 +148,13 @@ recordsInBatches (batch b on) = recordsInBatch b ++ recordsInBatches on
 -- the file's header, those of its batches, its trailer
 abbrev pub recordsInFile : {ls : List (List ℕ)} {t : Totals} → RightFile ls t → List Record
 recordsInFile w = FileHeader ∷ (recordsInBatches (w .batches-right) ++ FileTrailer ∷ [])
+
+-- ---- payments and cents of batches, whatever the movement
+
+abbrev pub paymentsInBatches : {d : Direction} {bank n : ℕ} {ls : List (List ℕ)} {t : Totals} → Batches d bank n ls t → ℕ
+paymentsInBatches no-batches = 0
+paymentsInBatches (batch b on) = b .payments + paymentsInBatches on
+
+abbrev pub centsInBatches : {d : Direction} {bank n : ℕ} {ls : List (List ℕ)} {t : Totals} → Batches d bank n ls t → ℕ
+centsInBatches no-batches = 0
+centsInBatches (batch b on) = b .cents + centsInBatches on

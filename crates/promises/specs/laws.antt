@@ -3,6 +3,7 @@ pub mod Tabled
 pub mod Families
 pub mod Facts
 pub mod Shape
+pub mod Together
 pub mod ReadAs
 pub mod Parse
 pub mod Build

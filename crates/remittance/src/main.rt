@@ -1,6 +1,7 @@
 // Writes a small remittance, a credit batch and a boleto batch of one payment each, reads it back as
-// the bank would, and prints the reader's line: `OK batches records payments cents`. If a call is
-// refused, its line is printed instead: `NO number line place`.
+// the bank would, and prints the reader's line: `OK batches records payments cents payments cents`, the
+// live payments before the withdrawn ones. If a call is refused, its line is printed instead: `NO number
+// line place`.
 mod records;
 
 use checker::LINE_BYTES;

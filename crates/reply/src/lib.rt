@@ -1,14 +1,19 @@
 // The line that the programs print: `OK` or `NO`, and numbers. What it says is a value, with a
 // contract; that it is printed is output, of which no contract can speak.
 use answer::Answer;
+use answer::RecordCount;
 use answer::Refusal;
+use checker::Live;
+use checker::Withdrawn;
 use files::Outcome;
 use libc::STDOUT_FILENO;
 ghost use mathlib.Core.Path.{_≡_};
-ghost use Rattle.reply.specs.Lines.{refusalLine, answerLine, outcomeLine};
+ghost use Rattle.checker.specs.Totals.{totals};
+ghost use Rattle.reply.specs.Lines.{refusalLine, answerLine, totalsLine, outcomeLine};
 
-// The most numbers that a line has: batches, records, payments and cents.
-const MOST_NUMBERS: usize = 4;
+// The most numbers that a line has: batches, records, live payments and their cents, withdrawn
+// payments and their cents.
+const MOST_NUMBERS: usize = 6;
 
 // Of the numbers the first `count` stand in the line.
 pub struct Line {
@@ -24,7 +29,7 @@ impl Line {
     {
         Line {
             accepted: false,
-            numbers: [r.number as u64, r.line.0, r.place as u64, 0],
+            numbers: [r.number as u64, r.line.0, r.place as u64, 0, 0, 0],
             count: 3,
         }
     }
@@ -43,16 +48,32 @@ impl Line {
         }
     }
 
-    // `OK batches records payments cents`, or the refusal's line.
+    // `OK batches records payments cents payments cents`, the live ones before the withdrawn ones.
+    fn of_counts(batches: u64, records: RecordCount, live: Live, withdrawn: Withdrawn) -> Line
+        ensures { λ l. ⌜ l ≡ totalsLine (totals batches (records .0) live withdrawn) ⌝ }
+    {
+        Line {
+            accepted: true,
+            numbers: [
+                batches,
+                records.0,
+                live.payments(),
+                live.cents().0,
+                withdrawn.payments(),
+                withdrawn.cents().0,
+            ],
+            count: MOST_NUMBERS,
+        }
+    }
+
+    // The line of the totals, or of the refusal.
     pub fn of_outcome(outcome: Outcome) -> Line
         ensures { λ l. ⌜ l ≡ outcomeLine outcome ⌝ }
     {
         match outcome {
-            Outcome::Accepted(t) => Line {
-                accepted: true,
-                numbers: [t.batches(), t.records().0, t.payments(), t.cents().0],
-                count: 4,
-            },
+            Outcome::Accepted(t) => {
+                Line::of_counts(t.batches(), t.records(), t.live(), t.withdrawn())
+            }
             Outcome::Refused(r) => Line::of_refusal(r),
         }
     }

@@ -6,9 +6,9 @@ use Rattle.answer.specs.declared.Answer.{Answer}
 use Rattle.answer.specs.declared.Answer.the-variants.{Accepted, Refused}
 use Rattle.fields.specs.Values.{Whole}
 use Rattle.fields.specs.declared.Fields.{Fields}
-use Rattle.checker.specs.Totals.{totals, none, add}
+use Rattle.checker.specs.Totals.{bare, none, add}
 use Rattle.checker.specs.declared.totals.Totals.{Totals}
-use Rattle.writer.specs.Given.{Call, openFile, openBatch, pay, closeBatch, closeFile, recordsIn, recordsOf, amountIn}
+use Rattle.writer.specs.Given.{Call, openFile, openBatch, pay, closeBatch, closeFile, recordsIn, recordsOf, amountIn, isWithdrawn, onePayment}
 use Rattle.writer.specs.Outcome.{newWriter, linesFor, answerOf, stateAfter, outputAfter}
 use Rattle.writer.specs.declared.Writer.{Writer}
 
@@ -48,14 +48,14 @@ written w (l ∷ ls) = linesIf (answerOf w (l .call) (l .out)) (linesFor (w .che
 abbrev pub fileOf : List Lent → List ℕ
 fileOf ls = flatten (written newWriter ls)
 
--- ---- what is put in: the batches opened, the records, the payments and the sum of their amounts
+-- ---- what is put in: the batches opened, the records, the live payments and the withdrawn ones with the sums of their amounts
 
 abbrev pub putBy : Call → Totals
-putBy (openFile v) = totals 0 1 0 0
-putBy (openBatch v) = totals 1 1 0 0
-putBy (pay p) = totals 0 (length (recordsIn p)) 1 (amountIn p)
-putBy (closeBatch v) = totals 0 1 0 0
-putBy (closeFile v) = totals 0 1 0 0
+putBy (openFile v) = bare 0 1
+putBy (openBatch v) = bare 1 1
+putBy (pay p) = onePayment (length (recordsIn p)) (isWithdrawn p) (amountIn p)
+putBy (closeBatch v) = bare 0 1
+putBy (closeFile v) = bare 0 1
 
 abbrev pub totalsIf : Answer → Totals → Totals
 totalsIf Accepted t = t

@@ -1,14 +1,19 @@
 -- What the writer's calls are given. Assumes nothing.
+use mathlib.Core.Bool.{Bool, not}
 use mathlib.Core.List.{List, [], _∷_}
 use Prim.Native.Nat.{ℕ}
+use lib.Dec.{eqb}
 use lib.ListN.{take}
 use Rattle.layout.specs.Field.{Field}
 use Rattle.layout.specs.Records.{amountsOf}
+use Rattle.layout.specs.Table.{movementField}
 use Rattle.layout.specs.Names.{indexOf}
 use Rattle.layout.specs.declared.Record.{Record}
 use Rattle.layout.specs.declared.Record.the-variants.{FileHeader, BatchHeader, SegmentZ, BatchTrailer, FileTrailer}
 use Rattle.fields.specs.Values.{noFields, takenAs, nth}
 use Rattle.fields.specs.declared.Fields.{Fields}
+use Rattle.checker.specs.Totals.{tally, live, withdrawn, totals, withdrawal, only}
+use Rattle.checker.specs.declared.totals.Totals.{Totals}
 use Rattle.writer.specs.declared.given.Count.{Count}
 use Rattle.writer.specs.declared.given.Count.the-variants.{Two, Three}
 use Rattle.writer.specs.declared.given.Payment.{Payment}
@@ -42,7 +47,7 @@ recordsOf (pay p) = recordsIn p
 recordsOf (closeBatch v) = takenAs BatchTrailer v ∷ []
 recordsOf (closeFile v) = takenAs FileTrailer v ∷ []
 
--- ---- the amount of a payment, which its first record gives
+-- ---- a payment: its first record gives its amount, and its movement
 
 abbrev pub givenIn : Record → List Field → Fields → ℕ
 givenIn r [] v = 0
@@ -53,3 +58,14 @@ amountOf r v = givenIn r (amountsOf r) v
 
 abbrev pub amountIn : Payment → ℕ
 amountIn p = amountOf (p .first .which) (p .first)
+
+-- movement 9 withdraws it
+abbrev pub withdrawsAs : Record → Fields → Bool
+withdrawsAs r v = eqb (nth (indexOf r movementField) v) withdrawal
+
+abbrev pub isWithdrawn : Payment → Bool
+isWithdrawn p = withdrawsAs (p .first .which) (p .first)
+
+-- what a payment puts in: its records, and itself with its amount, live or withdrawn
+abbrev pub onePayment : ℕ → Bool → ℕ → Totals
+onePayment records w cents = totals 0 records (live (only (not w) (tally 1 cents))) (withdrawn (only w (tally 1 cents)))

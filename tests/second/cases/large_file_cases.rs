@@ -13,6 +13,7 @@ use crate::paper::file_state::{BatchKind, BATCH_KINDS};
 use crate::paper::layout_table::{FIRST_OF_BATCH_HEADER, LAST_BLANKS_OF_BATCH_TRAILER};
 use crate::paper::lines::{LINE_BYTES, MOST_BATCHES};
 use crate::paper::record_kinds::{Direction, RecordKind, DIRECTIONS};
+use crate::paper::totals::Movement::{self, Live, Withdrawn};
 
 /// The flaws that come before and behind the limit of batches.
 const FLAWS_OF_HEADERS: [&[Flaw]; 8] = [
@@ -47,6 +48,7 @@ pub fn requests(random: &mut Random) -> Vec<Request> {
         }
         ask_damaged_files(&mut cases, direction);
         ask_large_sums(&mut cases, direction);
+        ask_large_mixes(&mut cases, direction);
     }
     ask_largest_file(&mut cases);
     cases.requests
@@ -117,6 +119,44 @@ fn ask_large_sums(cases: &mut FileCases, direction: Direction) {
         }
         cases.ask_file(file.bytes());
     }
+}
+
+/// Live and withdrawn payments reach 10^18 together, in two batches and in one,
+/// or miss it by a cent.
+fn ask_large_mixes(cases: &mut FileCases, direction: Direction) {
+    for movements in large_mixes() {
+        for last in [MISSING_CENTS - 1, MISSING_CENTS] {
+            let mut file = large_sum(cases, direction, 2, last);
+            file.put_movements(&movements);
+            cases.ask_file(file.bytes());
+        }
+        let mut file = large_sum(cases, direction, 1, MISSING_CENTS);
+        file.put_movements(&movements);
+        cases.ask_file(file.bytes());
+    }
+    let mut file = large_sum(cases, direction, 2, MISSING_CENTS);
+    file.put_movements(&[Live, Withdrawn]);
+    cases.ask_calls(&file.calls());
+}
+
+/// All live, all withdrawn, in turn, the one batch live and the other withdrawn,
+/// and all but the last payment.
+fn large_mixes() -> Vec<Vec<Movement>> {
+    let all = LARGEST_PAYMENTS as usize;
+    let behind = |before: Movement, payments: usize| {
+        let mut movements = vec![before; payments];
+        movements.resize(all + 1, before.other());
+        movements
+    };
+    vec![
+        vec![Live],
+        vec![Withdrawn],
+        vec![Live, Withdrawn],
+        behind(Live, all / 2),
+        behind(Withdrawn, all / 2),
+        behind(Live, all),
+        behind(Withdrawn, all),
+    ]
 }
 
 /// A file of so many batches whose payments all have the largest amount, but

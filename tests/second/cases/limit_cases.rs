@@ -4,15 +4,18 @@ use std::io;
 
 use crate::making::good_files::{LARGEST_AMOUNT, LARGEST_PAYMENTS, MISSING_CENTS};
 use crate::making::limit_files::{
-    add_batch, add_payments, batches, changed_payment, cut, one_batch, one_boleto, one_credit,
-    one_due, two_batches, BYTES_OF_270_LINES, FULL_BILL, MORE_PAYMENTS, PAYMENTS_IN_270_LINES,
+    add_batch, add_batch_of, add_payments, batches, changed_payment, cut, one_batch, one_boleto,
+    one_credit, one_due, payments_and_another, payments_in_turn, two_batches, BYTES_OF_270_LINES,
+    FULL_BILL, MORE_PAYMENTS, PAYMENTS_IN_270_LINES,
 };
+use crate::making::movements::put_movement;
 use crate::making::plain_files::{self, PlainFile, HUNDRED};
 use crate::making::plain_records::{self, PAYEES};
 use crate::paper::file_state::BatchKind;
 use crate::paper::lines::LINE_BYTES;
-use crate::paper::places::{AMOUNT_OF_J, BANK, DETAIL_NUMBER, MOVEMENT, SEGMENT};
+use crate::paper::places::{AMOUNT_OF_J, BANK, DETAIL_NUMBER, INSTRUCTION, MOVEMENT, SEGMENT};
 use crate::paper::record_kinds::{Direction, RecordKind};
+use crate::paper::totals::Movement::{Live, Withdrawn};
 
 pub type Write = fn(&mut dyn io::Write) -> io::Result<()>;
 
@@ -46,6 +49,8 @@ pub fn all() -> Vec<Case> {
     cases.extend(many_payments());
     cases.extend(behind_many_payments());
     cases.extend(large_sums());
+    cases.extend(withdrawn_payments());
+    cases.extend(limits_of_both());
     cases.extend(boletos_and_dates());
     cases.extend(due_dates());
     cases.extend(wrong_factors());
@@ -58,7 +63,7 @@ fn small_files() -> Vec<Case> {
     vec![
         case(
             "one payment",
-            "OK 1 6 1 10000",
+            "OK 1 6 1 10000 0 0",
             plain_files::write_one_payment,
         ),
         case("empty input", "NO 2 1 0", |_| Ok(())),
@@ -82,7 +87,7 @@ fn small_files() -> Vec<Case> {
 
 fn many_batches() -> Vec<Case> {
     vec![
-        case("70 batches", "OK 70 282 70 700000", |out| {
+        case("70 batches", "OK 70 282 70 700000 0 0", |out| {
             batches(out, 70)?.close()
         }),
         case("71 batches", "NO 20 282 8", |out| batches(out, 71)?.close()),
@@ -106,7 +111,7 @@ fn many_batches() -> Vec<Case> {
 
 fn many_payments() -> Vec<Case> {
     vec![
-        case("10,000 payments", "OK 1 20004 10000 100000000", |out| {
+        case("10,000 payments", "OK 1 20004 10000 100000000 0 0", |out| {
             one_batch(out, 10_000)
         }),
         case("10,001 payments", "NO 20 20003 14", |out| {
@@ -144,11 +149,11 @@ fn behind_many_payments() -> Vec<Case> {
         ),
         case(
             "Z behind 10,000 payments",
-            "OK 1 20005 10000 100000000",
+            "OK 1 20005 10000 100000000 0 0",
             |out| {
                 let mut file = PlainFile::begin(out, Direction::Return)?;
                 file.open_batch(BatchKind::Credit)?;
-                add_payments(&mut file, 10_000, HUNDRED)?;
+                add_payments(&mut file, Live, 10_000, HUNDRED)?;
                 file.z()?;
                 file.close_batch()?;
                 file.close()
@@ -162,7 +167,7 @@ fn large_sums() -> Vec<Case> {
         case("a batch of 10^18 cents", "NO 22 2005 24", |out| {
             let mut file = PlainFile::begin(out, Direction::Remittance)?;
             file.open_batch(BatchKind::Credit)?;
-            add_payments(&mut file, LARGEST_PAYMENTS, LARGEST_AMOUNT)?;
+            add_payments(&mut file, Live, LARGEST_PAYMENTS, LARGEST_AMOUNT)?;
             file.credit(0, MISSING_CENTS)?;
             file.close_batch()?;
             file.close()
@@ -170,16 +175,113 @@ fn large_sums() -> Vec<Case> {
         case("a batch beyond signed 64 bits", "NO 22 20003 24", |out| {
             let mut file = PlainFile::begin(out, Direction::Remittance)?;
             file.open_batch(BatchKind::Credit)?;
-            add_payments(&mut file, 10_000, LARGEST_AMOUNT)?;
+            add_payments(&mut file, Live, 10_000, LARGEST_AMOUNT)?;
             file.close_batch()
         }),
         case("two batches of 10^18 cents", "NO 23 2007 24", |out| {
-            two_batches(out, MISSING_CENTS)
+            two_batches(out, [Live, Live], MISSING_CENTS)
         }),
         case(
             "two batches of one cent less",
-            "OK 2 2008 1001 999999999999999999",
-            |out| two_batches(out, MISSING_CENTS - 1),
+            "OK 2 2008 1001 999999999999999999 0 0",
+            |out| two_batches(out, [Live, Live], MISSING_CENTS - 1),
+        ),
+    ]
+}
+
+fn withdrawn_payments() -> Vec<Case> {
+    vec![
+        case("one payment, withdrawn", "OK 1 6 0 0 1 10000", |out| {
+            payments_in_turn(out, 1, &[Withdrawn])
+        }),
+        case("one boleto, withdrawn", "OK 1 6 0 0 1 10000", |out| {
+            one_boleto(out, 0, |line| put_movement(line, Withdrawn))
+        }),
+        case("live, with instruction 99", "OK 1 6 1 10000 0 0", |out| {
+            one_boleto(out, 0, |line| INSTRUCTION.put(line, b"99"))
+        }),
+        case(
+            "70 batches, every other one withdrawn",
+            "OK 70 282 35 350000 35 350000",
+            |out| {
+                let mut file = PlainFile::begin(out, Direction::Remittance)?;
+                for movement in [Live, Withdrawn].repeat(35) {
+                    add_batch_of(&mut file, movement, 1)?;
+                }
+                file.close()
+            },
+        ),
+        case(
+            "10,000 payments, all withdrawn",
+            "OK 1 20004 0 0 10000 100000000",
+            |out| payments_in_turn(out, 10_000, &[Withdrawn]),
+        ),
+        case(
+            "10,000 payments, every other one withdrawn",
+            "OK 1 20004 5000 50000000 5000 50000000",
+            |out| payments_in_turn(out, 10_000, &[Live, Withdrawn]),
+        ),
+        case(
+            "Z behind 10,000 payments, all withdrawn",
+            "OK 1 20005 0 0 10000 100000000",
+            |out| {
+                let mut file = PlainFile::begin(out, Direction::Return)?;
+                file.open_batch(BatchKind::Credit)?;
+                add_payments(&mut file, Withdrawn, 10_000, HUNDRED)?;
+                file.z()?;
+                file.close_batch()?;
+                file.close()
+            },
+        ),
+    ]
+}
+
+/// The limits of payments and of cents, which live and withdrawn ones reach
+/// together.
+pub fn limits_of_both() -> Vec<Case> {
+    vec![
+        case("10,001 payments, all withdrawn", "NO 20 20003 14", |out| {
+            payments_in_turn(out, 10_001, &[Withdrawn])
+        }),
+        case(
+            "10,001 payments, every other one withdrawn",
+            "NO 20 20003 14",
+            |out| payments_in_turn(out, 10_001, &[Live, Withdrawn]),
+        ),
+        case(
+            "10,001st payment withdrawn, the others live",
+            "NO 20 20003 14",
+            |out| payments_and_another(out, Live),
+        ),
+        case(
+            "10,001st payment live, the others withdrawn",
+            "NO 20 20003 14",
+            |out| payments_and_another(out, Withdrawn),
+        ),
+        case(
+            "two batches of 10^18 cents, all withdrawn",
+            "NO 23 2007 24",
+            |out| two_batches(out, [Withdrawn, Withdrawn], MISSING_CENTS),
+        ),
+        case(
+            "two batches of 10^18 cents, the first withdrawn",
+            "NO 23 2007 24",
+            |out| two_batches(out, [Withdrawn, Live], MISSING_CENTS),
+        ),
+        case(
+            "two batches of 10^18 cents, the second withdrawn",
+            "NO 23 2007 24",
+            |out| two_batches(out, [Live, Withdrawn], MISSING_CENTS),
+        ),
+        case(
+            "two batches of one cent less, all withdrawn",
+            "OK 2 2008 0 0 1001 999999999999999999",
+            |out| two_batches(out, [Withdrawn, Withdrawn], MISSING_CENTS - 1),
+        ),
+        case(
+            "two batches of one cent less, the second withdrawn",
+            "OK 2 2008 500 499999999999999500 501 500000000000000499",
+            |out| two_batches(out, [Live, Withdrawn], MISSING_CENTS - 1),
         ),
     ]
 }
@@ -189,10 +291,10 @@ fn boletos_and_dates() -> Vec<Case> {
         case("29/02/2100", "NO 15 3 94", |out| {
             one_credit(out, b"29022100")
         }),
-        case("29/02/2000", "OK 1 6 1 10000", |out| {
+        case("29/02/2000", "OK 1 6 1 10000 0 0", |out| {
             one_credit(out, b"29022000")
         }),
-        case("discount of all", "OK 1 6 1 0", |out| {
+        case("discount of all", "OK 1 6 1 0 0 0", |out| {
             one_boleto(out, HUNDRED, |_| {})
         }),
         case("discount of more", "NO 19 3 153", |out| {
@@ -209,33 +311,51 @@ fn boletos_and_dates() -> Vec<Case> {
 /// Each with its own factor, or with none.
 fn due_dates() -> Vec<Case> {
     vec![
-        case("due 01/01/1997 without factor", "OK 1 6 1 10000", |out| {
-            one_due(out, b"01011997", 0)
-        }),
-        case("due 07/10/1997 without factor", "OK 1 6 1 10000", |out| {
-            one_due(out, b"07101997", 0)
-        }),
-        case("due 08/10/1997 with factor 1", "OK 1 6 1 10000", |out| {
-            one_due(out, b"08101997", 1)
-        }),
-        case("due 03/07/2000 with factor 1000", "OK 1 6 1 10000", |out| {
-            one_due(out, b"03072000", 1_000)
-        }),
-        case("due 21/02/2025 with factor 9999", "OK 1 6 1 10000", |out| {
-            one_due(out, b"21022025", 9_999)
-        }),
-        case("due 22/02/2025 with factor 1000", "OK 1 6 1 10000", |out| {
-            one_due(out, b"22022025", 1_000)
-        }),
-        case("due 13/10/2049 with factor 9999", "OK 1 6 1 10000", |out| {
-            one_due(out, b"13102049", 9_999)
-        }),
-        case("due 14/10/2049 with factor 1000", "OK 1 6 1 10000", |out| {
-            one_due(out, b"14102049", 1_000)
-        }),
-        case("due 31/12/2199 with factor 1864", "OK 1 6 1 10000", |out| {
-            one_due(out, b"31122199", 1_864)
-        }),
+        case(
+            "due 01/01/1997 without factor",
+            "OK 1 6 1 10000 0 0",
+            |out| one_due(out, b"01011997", 0),
+        ),
+        case(
+            "due 07/10/1997 without factor",
+            "OK 1 6 1 10000 0 0",
+            |out| one_due(out, b"07101997", 0),
+        ),
+        case(
+            "due 08/10/1997 with factor 1",
+            "OK 1 6 1 10000 0 0",
+            |out| one_due(out, b"08101997", 1),
+        ),
+        case(
+            "due 03/07/2000 with factor 1000",
+            "OK 1 6 1 10000 0 0",
+            |out| one_due(out, b"03072000", 1_000),
+        ),
+        case(
+            "due 21/02/2025 with factor 9999",
+            "OK 1 6 1 10000 0 0",
+            |out| one_due(out, b"21022025", 9_999),
+        ),
+        case(
+            "due 22/02/2025 with factor 1000",
+            "OK 1 6 1 10000 0 0",
+            |out| one_due(out, b"22022025", 1_000),
+        ),
+        case(
+            "due 13/10/2049 with factor 9999",
+            "OK 1 6 1 10000 0 0",
+            |out| one_due(out, b"13102049", 9_999),
+        ),
+        case(
+            "due 14/10/2049 with factor 1000",
+            "OK 1 6 1 10000 0 0",
+            |out| one_due(out, b"14102049", 1_000),
+        ),
+        case(
+            "due 31/12/2199 with factor 1864",
+            "OK 1 6 1 10000 0 0",
+            |out| one_due(out, b"31122199", 1_864),
+        ),
     ]
 }
 
@@ -263,7 +383,7 @@ fn wrong_factors() -> Vec<Case> {
 /// Around the largest number of whole lines that 64 KiB hold.
 fn cut_files() -> Vec<Case> {
     vec![
-        case("65,340 bytes", "OK 1 270 133 1330000", |out| {
+        case("65,340 bytes", "OK 1 270 133 1330000 0 0", |out| {
             one_batch(out, PAYMENTS_IN_270_LINES)
         }),
         case("65,340 bytes and one", "NO 3 271 0", |out| {
@@ -287,7 +407,7 @@ fn files_in_bits() -> Vec<Case> {
     let mut cases = vec![
         case(
             "single bytes",
-            "OK 1 6 1 10000",
+            "OK 1 6 1 10000 0 0",
             plain_files::write_one_payment,
         ),
         case("single bytes, the last one missing", "NO 1 6 0", |out| {
@@ -298,7 +418,7 @@ fn files_in_bits() -> Vec<Case> {
     for case in &mut cases {
         case.pace = Pace::InBits(1);
     }
-    cases.push(case("bits as usual", "OK 1 604 300 3000000", |out| {
+    cases.push(case("bits as usual", "OK 1 604 300 3000000 0 0", |out| {
         one_batch(out, MORE_PAYMENTS)
     }));
     for (name, bytes) in [
@@ -311,7 +431,7 @@ fn files_in_bits() -> Vec<Case> {
     ] {
         cases.push(Case {
             name,
-            demanded: "OK 1 604 300 3000000",
+            demanded: "OK 1 604 300 3000000 0 0",
             write: |out| one_batch(out, MORE_PAYMENTS),
             pace: Pace::InBits(bytes),
         });

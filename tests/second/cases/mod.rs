@@ -18,4 +18,6 @@ pub mod script_mixture_cases;
 pub mod script_pair_cases;
 pub mod script_room_cases;
 pub mod script_turn_cases;
+pub mod script_withdrawn_cases;
 pub mod streams;
+pub mod withdrawn_cases;

@@ -9,6 +9,7 @@ use crate::making::good_files::{any_file, file_of, put_amount, BatchShape, LARGE
 use crate::paper::file_state::{BatchKind, BATCH_KINDS};
 use crate::paper::lines::{LINE_BYTES, MOST_BATCHES};
 use crate::paper::record_kinds::{Direction, RecordKind, DIRECTIONS};
+use crate::paper::totals::Movement::{self, Live, Withdrawn};
 use crate::paper::writer_calls::{CallKind, WriterCall, CALL_KINDS};
 
 const MIXTURES: usize = 150;
@@ -71,6 +72,9 @@ impl ScriptCases<'_> {
             }
         }
         self.many_payments(Direction::Return, BatchKind::Credit, LONG_PAYMENTS);
+        for movements in [&[Withdrawn][..], &[Live, Withdrawn]] {
+            self.long_mix(movements);
+        }
     }
 
     /// 70 batches, and a 71st that is opened whenever it must not be: while the
@@ -130,6 +134,16 @@ impl ScriptCases<'_> {
                 put_amount(&mut file.lines[at], LARGEST_AMOUNT);
             }
         }
+        let calls = calls_of(self.random, &file);
+        self.ask_calls(&calls);
+    }
+
+    /// More withdrawn payments than a byte counts, or half as many.
+    fn long_mix(&mut self, movements: &[Movement]) {
+        let (kind, payments) = (BatchKind::Boleto, LONG_PAYMENTS);
+        let shapes = [BatchShape { kind, payments }];
+        let mut file = file_of(self.random, Direction::Remittance, &shapes);
+        file.put_movements(movements);
         let calls = calls_of(self.random, &file);
         self.ask_calls(&calls);
     }

@@ -43,7 +43,7 @@ impl Standing {
             Stage::Start => Standing::NoFile,
             Stage::BetweenBatches if state.batches == 0 => Standing::NoBatch,
             Stage::BetweenBatches => Standing::BetweenBatches,
-            Stage::InBatch(batch) if batch.payments == 0 => Standing::EmptyBatch,
+            Stage::InBatch(batch) if batch.totals.payments() == 0 => Standing::EmptyBatch,
             Stage::InBatch(_) => Standing::Batch,
             Stage::Ended => Standing::Closed,
         }

@@ -8,7 +8,7 @@ use crate::asking::probe::{Request, HEADER_BYTES, OP_AT};
 use crate::cases::file_cases::{self, FileCases};
 use crate::cases::script_cases::ScriptCases;
 use crate::cases::{digit_cases, due_cases, large_file_cases, line_call_cases};
-use crate::cases::{record_cases, record_write_cases};
+use crate::cases::{record_cases, record_write_cases, withdrawn_cases};
 use crate::damage::malformed_requests::{changed, malformed_requests, with_bait};
 use crate::making::good_barcodes;
 use crate::making::good_requests::good_requests;
@@ -20,6 +20,7 @@ const ORDER_SEED: u64 = 4;
 const RECORD_SEED: u64 = 6;
 const RECORD_WRITE_SEED: u64 = 7;
 const MADE_ONCE_SEED: u64 = 8;
+const WITHDRAWN_SEED: u64 = 14;
 const PAIRS_OF_FLAWS_SEED: u64 = 10;
 const ROUNDS_OF_PAIRS: usize = 2;
 /// The first of the streams about files has this seed, the others the next ones.
@@ -66,13 +67,15 @@ pub fn string_streams() -> impl Iterator<Item = Stream> {
     iter::once_with(|| stream_of_strings(&accepted_barcodes()))
 }
 
-/// The streams about the writer, the first of them with the long scripts.
+/// The streams about the writer, the first of them with the scripts that are
+/// made once.
 pub fn writer_streams() -> impl Iterator<Item = Stream> {
     (0..WRITER_STREAMS).map(|index| {
         let mut random = Random::with_seed(FIRST_WRITER_SEED + index);
         let mut cases = ScriptCases::new(&mut random);
         if index == 0 {
             cases.ask_long();
+            cases.ask_withdrawn();
         }
         cases.ask_all();
         let mut requests = cases.requests;
@@ -114,14 +117,17 @@ fn stream_of_pairs_of_flaws() -> Stream {
     Stream::shuffled(requests, &mut random)
 }
 
-/// Large files, every due date around a turn, and files that chance would
-/// hardly make.
+/// Large files, every due date around a turn, every mix of live and withdrawn
+/// payments, and files that chance would hardly make.
 fn stream_of_files_made_once() -> Stream {
     let mut random = Random::with_seed(MADE_ONCE_SEED);
     let mut requests = large_file_cases::requests(&mut random);
     requests.extend(due_cases::requests(&mut random));
     requests.extend(file_cases::unlikely_files(&mut random));
     requests.extend(line_call_cases::unlikely_calls(&mut random));
+    requests.extend(withdrawn_cases::requests(&mut Random::with_seed(
+        WITHDRAWN_SEED,
+    )));
     Stream::shuffled(requests, &mut random)
 }
 

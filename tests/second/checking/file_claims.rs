@@ -9,12 +9,14 @@ use crate::paper::answers::Verdict;
 use crate::paper::file_reader::check_file;
 use crate::paper::guarded_places::guarded_places;
 use crate::paper::lines::LINE_BYTES;
+use crate::paper::payments::{payments_of, totals_of};
+use crate::paper::totals::Totals;
 
 const SEED: u64 = 9;
 const FILES: usize = 60;
 
 /// Files and what document 01 says of them.
-const EXAMPLE: &str = "OK 1 6 1 10000";
+const EXAMPLE: &str = "OK 1 6 1 10000 0 0";
 const EMPTY: &str = "NO 2 1 0";
 const SHORT: &str = "NO 1 1 0";
 
@@ -27,6 +29,7 @@ pub fn check() -> Result<usize, String> {
     for _ in 0..FILES {
         let file = any_file(&mut random);
         demand(accepts(&file), "acceptance of a good file")?;
+        totals_are_sums(&file)?;
         refused += changes_at_guarded_places(&mut random, &file)?;
     }
     Ok(refused)
@@ -42,6 +45,15 @@ fn examples() -> Result<(), String> {
         demand(check_file(bytes).to_string() == said, said)?;
     }
     Ok(())
+}
+
+/// Each of the last four numbers is a sum over the file's own payments.
+fn totals_are_sums(file: &MadeFile) -> Result<(), String> {
+    let lines = file.lines.iter().map(|line| line.bytes.as_slice());
+    let Totals { live, withdrawn } = totals_of(&payments_of(lines));
+    let sums = [live, withdrawn].map(|share| format!(" {} {}", share.payments, share.cents));
+    let said = check_file(&file.bytes()).to_string();
+    demand(said.ends_with(&sums.concat()), "the totals of a good file")
 }
 
 fn accepts(file: &MadeFile) -> bool {

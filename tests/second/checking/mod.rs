@@ -8,6 +8,8 @@ pub mod due_claims;
 pub mod due_tally;
 pub mod fault_hunt;
 pub mod file_claims;
+pub mod limit_hunt;
+pub mod movement_tally;
 pub mod record_claims;
 pub mod sample_sights;
 pub mod script_demands;

@@ -5,15 +5,14 @@ use crate::making::good_files::{MadeFile, MadeLine};
 use crate::making::guarded_samples::Sample;
 use crate::paper::guarded_places::WEAK_CHECK;
 use crate::paper::layout_table::{self as table, Entry};
-use crate::paper::places::{
-    part, Part, BARCODE_CENTS, BARCODE_CHECK, DISCOUNT, FACTOR, FINE, MOVEMENT,
-};
+use crate::paper::places::{part, Part, BARCODE_CENTS, BARCODE_CHECK, DISCOUNT, FACTOR, FINE};
 use crate::paper::record_kinds::{Direction, RecordKind};
 use crate::paper::record_rules::all_blank;
+use crate::paper::totals::Movement;
 
 const FORM: Part = part(12, 13);
 
-const DEMANDED: [&str; 23] = [
+const DEMANDED: [&str; 29] = [
     "form 01",
     "form 10",
     "form 41",
@@ -24,8 +23,14 @@ const DEMANDED: [&str; 23] = [
     "credit without Z in a return",
     "boleto with Z in a return",
     "boleto without Z in a return",
-    "movement 0",
-    "movement 9",
+    "live credit in a remittance",
+    "live credit in a return",
+    "live boleto in a remittance",
+    "live boleto in a return",
+    "withdrawn credit in a remittance",
+    "withdrawn credit in a return",
+    "withdrawn boleto in a remittance",
+    "withdrawn boleto in a return",
     "general check 1",
     "another general check",
     "factor 0",
@@ -63,7 +68,10 @@ fn sights_of_file(file: &MadeFile) -> Vec<String> {
             RecordKind::B => sights.push(format!("credit {z} in a {direction}")),
             RecordKind::J52 => sights.push(format!("boleto {z} in a {direction}")),
             RecordKind::A | RecordKind::J => {
-                sights.push(format!("movement {}", MOVEMENT.number(bytes)));
+                let withdrawn = Movement::of(bytes) == Movement::Withdrawn;
+                let movement = either(withdrawn, "withdrawn", "live");
+                let payment = either(line.kind == RecordKind::A, "credit", "boleto");
+                sights.push(format!("{movement} {payment} in a {direction}"));
             }
             _ => {}
         }

@@ -4,12 +4,14 @@
 use crate::asking::writer_script::{MISFITS, NUMBERS_OF_A_RECORD};
 use crate::cases::script_kind_cases::POSITIONS;
 use crate::cases::script_turn_cases::{Standing, STANDINGS};
+use crate::checking::movement_tally::{COUNTED, MIXES};
 use crate::checking::script_sights::{code, wrong_kind, Class, Distance, Sight, MOST_BESIDE};
 use crate::making::good_calls::{given_numbers, given_texts, takes_number};
 use crate::paper::file_state::{BatchKind, BATCH_KINDS};
 use crate::paper::layout_table::{self as table, Entry};
 use crate::paper::places::{AMOUNT_OF_J, BARCODE_CENTS, BARCODE_CHECK, FACTOR};
 use crate::paper::record_kinds::{Direction, RecordKind, DIRECTIONS, RECORD_KINDS};
+use crate::paper::totals::MOVEMENTS;
 use crate::paper::writer_calls::{CallKind, CALL_KINDS};
 
 const MOST_LINES: usize = 7;
@@ -32,6 +34,7 @@ pub fn demanded() -> Vec<Sight> {
     sights.extend(two_faults());
     sights.extend(rooms());
     sights.extend(closed_files());
+    sights.extend(movements());
     let going_on = NUMBERS_BEFORE_GOING_ON.into_iter().chain([51]);
     sights.extend(going_on.map(|number| Sight::AcceptedBehind { number }));
     sights.extend(MISFITS.map(|misfit| Sight::NoScript { misfit }));
@@ -234,5 +237,35 @@ fn closed_files() -> Vec<Sight> {
     }
     sights.extend([true, false].map(|boletos| Sight::ClosedWithZ { boletos }));
     sights.extend([1, 2, 3, 70].map(|batches| Sight::ClosedWithBatches { batches }));
+    sights
+}
+
+/// Live and withdrawn payments of every kind, and what closing says of them.
+fn movements() -> Vec<Sight> {
+    let mut sights = Vec::new();
+    for batch in BATCH_KINDS {
+        let first = code(batch.payment_kinds().0);
+        for direction in DIRECTIONS {
+            let with_z = direction == Direction::Return;
+            let direction = char::from(direction.code());
+            for movement in MOVEMENTS {
+                let zs = [false, true].into_iter().take(1 + usize::from(with_z));
+                sights.extend(zs.map(|has_z| Sight::Paid {
+                    direction,
+                    first,
+                    movement,
+                    has_z,
+                }));
+            }
+            sights.extend(MIXES.map(|mix| Sight::ClosedBatch {
+                direction,
+                first,
+                mix,
+            }));
+        }
+        let instead = MOVEMENTS.map(|movement| Sight::PaidInsteadOfTheOther { first, movement });
+        sights.extend(instead);
+    }
+    sights.extend(COUNTED.map(|counted| Sight::ClosedWithNumbers { counted }));
     sights
 }

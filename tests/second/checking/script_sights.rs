@@ -2,8 +2,10 @@
 
 use crate::asking::writer_script::Misfit;
 use crate::cases::script_turn_cases::Standing;
+use crate::checking::movement_tally::{Counted, Mix};
 use crate::paper::file_state::BatchKind;
 use crate::paper::record_kinds::{Direction, RecordKind};
+use crate::paper::totals::Movement;
 
 /// So far from what a call asks for is the room of note.
 pub const MOST_BESIDE: isize = 3;
@@ -120,6 +122,28 @@ pub enum Sight {
     },
     ClosedWithBatches {
         batches: u64,
+    },
+    /// An accepted payment.
+    Paid {
+        direction: char,
+        first: char,
+        movement: Movement,
+        has_z: bool,
+    },
+    /// Straight behind a refused one of the other movement.
+    PaidInsteadOfTheOther {
+        first: char,
+        movement: Movement,
+    },
+    /// A batch that was closed.
+    ClosedBatch {
+        direction: char,
+        first: char,
+        mix: Mix,
+    },
+    /// What the close of the file has said.
+    ClosedWithNumbers {
+        counted: Counted,
     },
     NoCall,
     NoScript {

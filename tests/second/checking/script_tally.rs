@@ -2,17 +2,21 @@
 //! close read by the second program's own reader.
 
 use std::collections::BTreeSet;
+use std::fmt;
 
 use crate::asking::writer_script::{Misfit, Step};
 use crate::checking::call_sights::SeenCall;
+use crate::checking::movement_tally::{counted, Mix};
 use crate::checking::script_demands::demanded;
-use crate::checking::script_sights::Sight;
-use crate::paper::answers::Verdict;
+use crate::checking::script_sights::{code, Sight};
+use crate::making::movements::given_movement;
+use crate::paper::answers::{AnswerLine, Verdict};
 use crate::paper::file_reader::check_file;
 use crate::paper::file_state::BatchKind;
 use crate::paper::layout_table as table;
 use crate::paper::lines::LINE_BYTES;
 use crate::paper::places;
+use crate::paper::totals::{Movement, Totals};
 use crate::paper::writer::{Output, Writer};
 use crate::paper::writer_calls::{CallKind, WriterCall};
 use crate::paper::Paper;
@@ -80,11 +84,15 @@ impl ScriptTally {
     /// What was put in has to be what the reader finds.
     fn read_back(&mut self, run: &Run) {
         let read = check_file(&run.writer.file).to_string();
-        let [batches, records, payments, cents] = run.put_in;
-        let put_in = format!("OK {batches} {records} {payments} {cents}");
+        let put_in = run.put_in.to_string();
         if read != put_in {
             self.misread
                 .push(format!("a closed file of {put_in} is read as {read}"));
+        }
+        if run.said_at_the_close != put_in {
+            let said = &run.said_at_the_close;
+            self.misread
+                .push(format!("closing a file of {put_in} says {said}"));
         }
     }
 
@@ -115,11 +123,37 @@ struct Run {
     output: Output,
     calls: usize,
     last_refusal: Option<u32>,
+    /// Of a payment that the last call gave in vain.
+    refused_movement: Option<Movement>,
     overwritten: bool,
     batches: Vec<BatchKind>,
     has_z: bool,
-    /// Batches, records, payments and cents of the accepted calls.
-    put_in: [u64; 4],
+    put_in: PutIn,
+    /// What the close of the file has said.
+    said_at_the_close: String,
+}
+
+/// What the accepted calls have put in, added up from what the caller gave.
+#[derive(Default)]
+struct PutIn {
+    batches: u64,
+    records: u64,
+    totals: Totals,
+    /// Of the open batch, which are among the others too.
+    of_batch: Totals,
+}
+
+impl fmt::Display for PutIn {
+    fn fmt(&self, out: &mut fmt::Formatter) -> fmt::Result {
+        let (batches, records) = (self.batches, self.records);
+        let Totals { live, withdrawn } = self.totals;
+        write!(
+            out,
+            "OK {batches} {records} {} {}",
+            live.payments, live.cents
+        )?;
+        write!(out, " {} {}", withdrawn.payments, withdrawn.cents)
+    }
 }
 
 impl Run {
@@ -129,15 +163,17 @@ impl Run {
             output: Output::of(room),
             calls: 0,
             last_refusal: None,
+            refused_movement: None,
             overwritten: false,
             batches: Vec::new(),
             has_z: false,
-            put_in: [0; 4],
+            put_in: PutIn::default(),
+            said_at_the_close: String::new(),
         }
     }
 
     /// Carries a step out; the answer is that of a call.
-    fn take(&mut self, step: &Step) -> Option<Verdict> {
+    fn take(&mut self, step: &Step) -> Option<AnswerLine> {
         self.output.change(step);
         let call = match step {
             Step::Call(call) => call,
@@ -148,17 +184,24 @@ impl Run {
         if answer.verdict == Verdict::Accepted {
             self.add_up(call);
         }
-        Some(answer.verdict)
+        if call.kind == CallKind::CloseFile && answer.verdict == Verdict::Accepted {
+            self.said_at_the_close = answer.to_string();
+        }
+        Some(answer)
     }
 
     fn add_up(&mut self, call: &WriterCall) {
-        let [batches, records, payments, cents] = &mut self.put_in;
-        *records += call.records.len() as u64;
+        let put_in = &mut self.put_in;
+        put_in.records += call.records.len() as u64;
         match call.kind {
-            CallKind::OpenBatch => *batches += 1,
+            CallKind::OpenBatch => {
+                put_in.batches += 1;
+                put_in.of_batch = Totals::default();
+            }
             CallKind::Payment => {
-                *payments += 1;
-                *cents += given_amount(call);
+                let (movement, cents) = (given_movement(call), given_amount(call));
+                put_in.totals.add_payment(movement, cents);
+                put_in.of_batch.add_payment(movement, cents);
             }
             CallKind::OpenFile | CallKind::CloseBatch | CallKind::CloseFile => {}
         }
@@ -186,12 +229,55 @@ impl Run {
         };
         let mut sights = seen.faults();
         sights.extend(seen.room(self.output.lent, self.writer.cursor));
-        match self.take(step) {
-            Some(Verdict::Refused { number, .. }) => self.last_refusal = Some(number),
+        let answer = self.take(step);
+        match answer.as_ref().map(|answer| answer.verdict) {
+            Some(Verdict::Refused { number, .. }) => {
+                self.last_refusal = Some(number);
+                let payment = call.kind == CallKind::Payment;
+                self.refused_movement = payment.then(|| given_movement(call));
+            }
             _ => {
                 sights.extend(seen.accepted(&self.writer.file[written..]));
                 sights.extend(self.accepted(call));
+                sights.extend(self.movements(call, answer));
             }
+        }
+        sights
+    }
+
+    /// What an accepted call shows of live and withdrawn payments.
+    fn movements(&mut self, call: &WriterCall, answer: Option<AnswerLine>) -> Vec<Sight> {
+        let mut sights = Vec::new();
+        let direction = char::from(self.writer.state.direction.code());
+        let refused = self.refused_movement.take();
+        match call.kind {
+            CallKind::Payment => {
+                let (first, movement) = (code(call.records[0].kind), given_movement(call));
+                sights.push(Sight::Paid {
+                    direction,
+                    first,
+                    movement,
+                    has_z: call.records.len() > 2,
+                });
+                if refused == Some(movement.other()) {
+                    sights.push(Sight::PaidInsteadOfTheOther { first, movement });
+                }
+            }
+            CallKind::CloseBatch => {
+                let first = self.batches.last().map(|kind| code(kind.payment_kinds().0));
+                let mix = Mix::of(self.put_in.of_batch);
+                let closed = first.zip(mix).map(|(first, mix)| Sight::ClosedBatch {
+                    direction,
+                    first,
+                    mix,
+                });
+                sights.extend(closed);
+            }
+            CallKind::CloseFile => {
+                let counted = answer.and_then(|answer| counted(&answer.numbers));
+                sights.extend(counted.map(|counted| Sight::ClosedWithNumbers { counted }));
+            }
+            CallKind::OpenFile | CallKind::OpenBatch => {}
         }
         sights
     }

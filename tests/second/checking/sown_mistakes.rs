@@ -32,13 +32,13 @@ impl SownMistake {
         }
     }
 
-    /// The opposite demanded of the first change of which this is demanded;
+    /// Something wrong demanded of the first change of which this is demanded;
     /// nothing if there is no such change.
     pub fn in_a_demand(trials: &Trials, demand: Demand) -> Option<SownMistake> {
         let mut trials = trials.clone();
         let mut changes = trials.changes.iter_mut();
         let change = changes.find(|change| change.demand == demand)?;
-        change.demand = demand.opposite();
+        change.demand = demand.wrong();
         let (line, place) = (change.line, change.place);
         Some(SownMistake {
             trials,

@@ -7,6 +7,7 @@ use std::fmt;
 use crate::asking::probe::{Call, Op, Request};
 use crate::asking::replies::MALFORMED;
 use crate::checking::due_tally::DueTally;
+use crate::checking::movement_tally::MovementTally;
 use crate::checking::script_tally::ScriptTally;
 use crate::paper::answers::{Answer, Verdict};
 
@@ -64,6 +65,7 @@ pub struct Tally {
     seen: BTreeMap<(String, &'static str), usize>,
     requests: BTreeMap<&'static str, usize>,
     dues: DueTally,
+    movements: MovementTally,
     scripts: ScriptTally,
 }
 
@@ -76,7 +78,14 @@ impl Tally {
             *self.seen.entry(key).or_default() += 1;
         }
         match request.call() {
-            Some(Call::CheckFile) => self.dues.count(&request.payload, answer),
+            Some(Call::CheckFile) => {
+                self.dues.count(&request.payload, answer);
+                self.movements.count_file(&request.payload, answer);
+            }
+            Some(Call::CheckLines) => {
+                let calls = request.line_calls().unwrap_or_default();
+                self.movements.count_lines(&calls, answer);
+            }
             Some(Call::WriteFile { room }) => self.scripts.count(&request.script(), room),
             _ => {}
         }
@@ -108,6 +117,7 @@ impl Tally {
             gaps.push("some answers have no place in the table".to_string());
         }
         gaps.extend(self.dues.gaps());
+        gaps.extend(self.movements.gaps());
         gaps.extend(self.scripts.gaps());
         gaps
     }
@@ -158,6 +168,11 @@ impl fmt::Display for Tally {
             let requests = self.requests.get(column).copied().unwrap_or(0);
             write!(out, "{requests:>8}")?;
         }
-        write!(out, "\n{}\n{}", self.dues.summary(), self.scripts.summary())
+        let summaries = [
+            self.dues.summary(),
+            self.movements.summary(),
+            self.scripts.summary(),
+        ];
+        write!(out, "\n{}", summaries.join("\n"))
     }
 }

@@ -4,14 +4,19 @@
 
 use crate::making::good_calls::calls_of;
 use crate::making::good_files::{any_file, file_of, BatchShape, MadeFile};
+use crate::making::movements::give_movement;
 use crate::making::random::Random;
-use crate::paper::file_state::{BatchKind, Stage};
+use crate::paper::file_state::{BatchKind, Stage, State};
 use crate::paper::lines::{CENTS_LIMIT, MOST_PAYMENTS};
 use crate::paper::places::AMOUNT_OF_A;
 use crate::paper::record_kinds::{Direction, RecordKind};
+use crate::paper::totals::{Share, Totals, MOVEMENTS};
 use crate::paper::writer::{Output, Writer};
 use crate::paper::writer_calls::WriterCall;
+use crate::paper::writer_rules::WriterRules;
 use crate::paper::Paper;
+use crate::sown::faults::writer_limit_faults;
+use crate::sown::Sown;
 
 const SEED: u64 = 12;
 const FILES: usize = 300;
@@ -37,7 +42,8 @@ pub fn check() -> Result<usize, String> {
         demand(bytes == file.bytes(), "the file that was written")?;
     }
     refusals(&mut random)?;
-    limits(&mut random)?;
+    limits(&mut random, Paper)?;
+    mistaken_limits(&mut random)?;
     Ok(FILES)
 }
 
@@ -103,50 +109,134 @@ fn refusals(random: &mut Random) -> Result<(), String> {
 }
 
 /// 20 of payments, 23 and 25, the state being set to what would lead there.
-fn limits(random: &mut Random) -> Result<(), String> {
+fn limits<Rules: WriterRules + Copy>(random: &mut Random, rules: Rules) -> Result<(), String> {
     let file = file_of_one_payment(random, BatchKind::Credit);
     let calls = calls_of(random, &file);
+    record_limits(&calls, rules)?;
+    let amount = u128::from(AMOUNT_OF_A.number(&file.lines[2].bytes));
+    for movement in MOVEMENTS {
+        let mut calls = calls.clone();
+        give_movement(&mut calls[2], movement);
+        payment_limits(&calls, rules)?;
+        total_limits(&calls, amount, rules)?;
+    }
+    Ok(())
+}
+
+fn record_limits<Rules: WriterRules + Copy>(
+    calls: &[WriterCall],
+    rules: Rules,
+) -> Result<(), String> {
     for (records, batch) in [
         (LAST_RECORDS_BEFORE_A_BATCH, "OK"),
         (LAST_RECORDS_BEFORE_A_BATCH + 1, "NO 25 999996 0"),
     ] {
-        let said = answer_behind(&calls, 1, |writer| writer.state.accepted_lines = records);
+        let said = answer_behind(calls, 1, rules, |state| state.accepted_lines = records);
         demand(said == batch, "25 of a batch")?;
     }
     for (records, payment) in [
         (LAST_RECORDS_BEFORE_A_PAYMENT, "OK"),
         (LAST_RECORDS_BEFORE_A_PAYMENT + 1, "NO 25 999997 0"),
     ] {
-        let said = answer_behind(&calls, 2, |writer| writer.state.accepted_lines = records);
+        let said = answer_behind(calls, 2, rules, |state| state.accepted_lines = records);
         demand(said == payment, "25 of a payment")?;
     }
+    Ok(())
+}
+
+/// However the payments before are live and withdrawn.
+fn payment_limits<Rules: WriterRules + Copy>(
+    calls: &[WriterCall],
+    rules: Rules,
+) -> Result<(), String> {
     for (payments, payment) in [(MOST_PAYMENTS - 1, "OK"), (MOST_PAYMENTS, "NO 20 3 14")] {
-        let said = answer_behind(&calls, 2, |writer| set_payments(writer, payments));
-        demand(said == payment, "20 of a payment")?;
+        for parts in divisions(payments.into()) {
+            let [live, withdrawn] = parts.map(payments_alone);
+            let totals = Totals { live, withdrawn };
+            let said = answer_behind(calls, 2, rules, |state| set_batch(state, totals));
+            demand(said == payment, "20 of a payment")?;
+        }
     }
-    let amount = u128::from(AMOUNT_OF_A.number(&file.lines[2].bytes));
+    Ok(())
+}
+
+/// However the cents before are live and withdrawn, in closed batches and in
+/// the open one.
+fn total_limits<Rules: WriterRules + Copy>(
+    calls: &[WriterCall],
+    amount: u128,
+    rules: Rules,
+) -> Result<(), String> {
     for (missing, payment) in [(amount + 1, "OK"), (amount, "NO 23 3 0")] {
-        let cents = CENTS_LIMIT - missing;
-        let said = answer_behind(&calls, 2, |writer| writer.state.cents = cents);
-        demand(said == payment, "23")?;
+        for [closed, open] in divisions(CENTS_LIMIT - missing) {
+            for (closed, open) in divisions(closed).into_iter().zip(divisions(open)) {
+                let [closed, open] = [closed, open].map(|parts| {
+                    let [live, withdrawn] = parts.map(cents_alone);
+                    Totals { live, withdrawn }
+                });
+                let said = answer_behind(calls, 2, rules, |state| {
+                    state.totals = closed;
+                    set_batch(state, open);
+                });
+                demand(said == payment, "23")?;
+            }
+        }
+    }
+    Ok(())
+}
+
+/// A number in two parts: all in one of them, or some in both.
+fn divisions(whole: u128) -> [[u128; 2]; 4] {
+    let half = whole / 2;
+    let few = whole.min(1);
+    [
+        [whole, 0],
+        [0, whole],
+        [half, whole - half],
+        [few, whole - few],
+    ]
+}
+
+fn payments_alone(payments: u128) -> Share {
+    Share {
+        payments: payments as u64,
+        cents: 0,
+    }
+}
+
+fn cents_alone(cents: u128) -> Share {
+    Share { payments: 0, cents }
+}
+
+/// The claims notice a writer that goes by live payments only, or by withdrawn
+/// ones: no script is long enough to show it.
+fn mistaken_limits(random: &mut Random) -> Result<(), String> {
+    for (name, fault) in writer_limit_faults() {
+        let noticed = limits(random, Sown::with(fault)).is_err();
+        demand(noticed, &format!("fault {name}"))?;
     }
     Ok(())
 }
 
 /// The answer to a call of a file, the state being changed before it.
-fn answer_behind(calls: &[WriterCall], at: usize, change: impl Fn(&mut Writer)) -> String {
+fn answer_behind<Rules: WriterRules>(
+    calls: &[WriterCall],
+    at: usize,
+    rules: Rules,
+    change: impl Fn(&mut State),
+) -> String {
     let mut output = Output::of(ROOM);
-    let mut writer = Writer::by(Paper);
+    let mut writer = Writer::by(rules);
     for call in &calls[..at] {
         writer.call(call, &mut output);
     }
-    change(&mut writer);
+    change(&mut writer.state);
     writer.call(&calls[at], &mut output).to_string()
 }
 
-fn set_payments(writer: &mut Writer, payments: u64) {
-    if let Stage::InBatch(batch) = &mut writer.state.stage {
-        batch.payments = payments;
+fn set_batch(state: &mut State, totals: Totals) {
+    if let Stage::InBatch(batch) = &mut state.stage {
+        batch.totals = totals;
     }
 }
 

@@ -9,6 +9,7 @@ use std::thread;
 use std::time::{Duration, Instant};
 
 use crate::cases::limit_cases::{self, Case, Pace};
+use crate::checking::limit_hunt;
 use crate::paper::file_reader::FileReader;
 
 /// A program that has not answered by then has failed.
@@ -27,7 +28,7 @@ pub fn check(command: &[String]) -> Result<(), String> {
         println!("{name}: {}", case.demanded);
     }
     println!("second: {} files agree", cases.len());
-    Ok(())
+    limit_hunt::catch_all()
 }
 
 /// The paper's own answer, the second program's and the program's are one.

@@ -6,6 +6,7 @@ use std::io;
 use std::str;
 
 use crate::asking::conversation::Conversation;
+use crate::asking::probe::Request;
 use crate::asking::replies::{Reply, MALFORMED};
 use crate::comparing::expected::expected_answer;
 use crate::damage::changes::{Change, Demand, Trials};
@@ -20,12 +21,20 @@ impl Change {
     }
 
     /// The lines before the changed one are good, so a refusal names none of
-    /// them. An acceptance is the one of the unchanged request.
-    fn is_answered(&self, came: &[u8], accepted: &[u8]) -> bool {
+    /// them. An acceptance is the one of the unchanged request, or else that of
+    /// the changed one, and not both.
+    fn is_answered(&self, came: &Reply, unchanged: &Request, accepted: &Reply) -> bool {
         match self.demand {
-            Demand::Refusal => refused_line(came).is_some_and(|line| line >= self.line),
-            Demand::Acceptance => came == accepted,
+            Demand::Refusal => refused_line(&came.lines).is_some_and(|line| line >= self.line),
+            Demand::Acceptance => came.lines == accepted.lines,
+            Demand::OtherTotals => came != accepted && is_accepted(&self.made_in(unchanged), came),
         }
+    }
+
+    fn made_in(&self, request: &Request) -> Request {
+        let mut changed = request.clone();
+        changed.payload[self.index()] = self.byte;
+        changed
     }
 }
 
@@ -54,29 +63,29 @@ impl Trials {
 
     fn failure_in(&self, conversation: &mut Conversation) -> io::Result<Option<Failure>> {
         let accepted = conversation.next_reply(&self.accepted)?;
-        if !self.is_accepted(&accepted) {
+        if !is_accepted(&self.accepted, &accepted) {
             return Ok(Some(self.failure(None, accepted.lines)));
         }
         for change in &self.changes {
             // All requests have one header, and that tells how long a reply is.
-            let came = conversation.next_reply(&self.accepted)?.lines;
-            if !change.is_answered(&came, &accepted.lines) {
-                return Ok(Some(self.failure(Some(*change), came)));
+            let came = conversation.next_reply(&self.accepted)?;
+            if !change.is_answered(&came, &self.accepted, &accepted) {
+                return Ok(Some(self.failure(Some(*change), came.lines)));
             }
         }
         Ok(None)
-    }
-
-    /// As document 01 demands it, totals and all.
-    fn is_accepted(&self, reply: &Reply) -> bool {
-        let demanded = expected_answer(&self.accepted).as_reply();
-        reply.lines.starts_with(ACCEPTED.as_bytes()) && *reply == demanded
     }
 
     fn failure(&self, change: Option<Change>, came: Vec<u8>) -> Failure {
         let name = self.name.clone();
         Failure::Reply { name, change, came }
     }
+}
+
+/// As document 01 demands it, totals and all.
+fn is_accepted(request: &Request, reply: &Reply) -> bool {
+    let demanded = expected_answer(request).as_reply();
+    reply.lines.starts_with(ACCEPTED.as_bytes()) && *reply == demanded
 }
 
 /// All in one conversation with the program.
@@ -145,6 +154,7 @@ impl fmt::Display for Failure {
                 match change.demand {
                     Demand::Refusal => "a refusal is demanded",
                     Demand::Acceptance => "the same acceptance is demanded",
+                    Demand::OtherTotals => "an acceptance with other totals is demanded",
                 }
             }
         };

@@ -8,12 +8,16 @@ pub enum Demand {
     Refusal,
     /// With the totals of the unchanged file.
     Acceptance,
+    /// With a payment that was live counted as withdrawn, or the other way
+    /// round.
+    OtherTotals,
 }
 
 impl Demand {
-    pub fn opposite(self) -> Demand {
+    /// A demand that is wrong where this one is right.
+    pub fn wrong(self) -> Demand {
         match self {
-            Demand::Refusal => Demand::Acceptance,
+            Demand::Refusal | Demand::OtherTotals => Demand::Acceptance,
             Demand::Acceptance => Demand::Refusal,
         }
     }

@@ -8,7 +8,7 @@ use crate::making::random::Random;
 use crate::paper::boleto_rules::{BoletoRules, BOLETO_RULES};
 use crate::paper::guarded_places::guarded_places;
 use crate::paper::lines::RECORD_BYTES;
-use crate::paper::places::DIRECTION;
+use crate::paper::places::{self, DIRECTION, MOVEMENT};
 use crate::paper::record_kinds::{Direction, RecordKind, Subject};
 use crate::paper::records::Records;
 use crate::paper::Paper;
@@ -26,11 +26,21 @@ pub fn harmless_changes(random: &mut Random, file: &MadeFile) -> Vec<Change> {
                 line: before + 1,
                 place,
                 byte,
-                demand: Demand::Acceptance,
+                demand: demand_at(line.kind, place),
             }));
         }
     }
     changes
+}
+
+/// A movement that breaks no rule withdraws a payment, or makes it live.
+fn demand_at(kind: RecordKind, place: usize) -> Demand {
+    let begins_payment = places::amount(kind).is_some();
+    if begins_payment && place == MOVEMENT.first {
+        Demand::OtherTotals
+    } else {
+        Demand::Acceptance
+    }
 }
 
 /// Bytes that break no rule of the file's lines.

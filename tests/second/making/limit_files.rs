@@ -4,12 +4,14 @@ use std::io;
 
 use crate::making::due_dates::DueDate;
 use crate::making::good_files::{put_factor, LARGEST_AMOUNT, LARGEST_PAYMENTS};
+use crate::making::movements::put_movement;
 use crate::making::plain_files::{PlainFile, HUNDRED};
 use crate::making::plain_records::{self, Bill, PAYEES};
 use crate::paper::file_state::BatchKind;
 use crate::paper::lines::LINE_BYTES;
 use crate::paper::places::DUE;
 use crate::paper::record_kinds::{Direction, RecordKind};
+use crate::paper::totals::Movement::{self, Live};
 
 /// So many payments make a file of 270 lines, which is 65,340 bytes.
 pub const PAYMENTS_IN_270_LINES: u64 = 133;
@@ -33,27 +35,67 @@ pub fn batches(out: &mut dyn io::Write, count: u64) -> io::Result<PlainFile<'_>>
     Ok(file)
 }
 
-/// A credit batch of so many payments of 100.00.
+/// A credit batch of so many live payments of 100.00.
 pub fn add_batch(file: &mut PlainFile, payments: u64) -> io::Result<()> {
+    add_batch_of(file, Live, payments)
+}
+
+pub fn add_batch_of(file: &mut PlainFile, movement: Movement, payments: u64) -> io::Result<()> {
     file.open_batch(BatchKind::Credit)?;
-    add_payments(file, payments, HUNDRED)?;
+    add_payments(file, movement, payments, HUNDRED)?;
     file.close_batch()
 }
 
 /// The records are made once, since a file may have very many of them.
-pub fn add_payments(file: &mut PlainFile, payments: u64, cents: u64) -> io::Result<()> {
-    let records = plain_records::credit_records(&PAYEES[0], 1, cents);
+pub fn add_payments(
+    file: &mut PlainFile,
+    movement: Movement,
+    payments: u64,
+    cents: u64,
+) -> io::Result<()> {
+    let records = credit_of(movement, cents);
     for _ in 0..payments {
         file.add_payment(records.clone())?;
     }
     Ok(())
 }
 
+fn credit_of(movement: Movement, cents: u64) -> [(RecordKind, Vec<u8>); 2] {
+    let [(kind, mut first), second] = plain_records::credit_records(&PAYEES[0], 1, cents);
+    put_movement(&mut first, movement);
+    [(kind, first), second]
+}
+
+/// A file of one batch with so many payments, which have these movements in
+/// turn.
+pub fn payments_in_turn(
+    out: &mut dyn io::Write,
+    payments: usize,
+    movements: &[Movement],
+) -> io::Result<()> {
+    let mut file = PlainFile::begin(out, Direction::Remittance)?;
+    file.open_batch(BatchKind::Credit)?;
+    for movement in movements.iter().cycle().take(payments) {
+        file.add_payment(credit_of(*movement, HUNDRED))?;
+    }
+    file.close_batch()?;
+    file.close()
+}
+
+/// A file so far of 10,000 payments, all live or all withdrawn, and one more
+/// that is not.
+pub fn payments_and_another(out: &mut dyn io::Write, movement: Movement) -> io::Result<()> {
+    let mut file = PlainFile::begin(out, Direction::Remittance)?;
+    file.open_batch(BatchKind::Credit)?;
+    add_payments(&mut file, movement, 10_000, HUNDRED)?;
+    add_payments(&mut file, movement.other(), 1, HUNDRED)
+}
+
 /// A file so far of 10,000 payments and the first record of one more, which is changed.
 pub fn changed_payment(out: &mut dyn io::Write, change: fn(&mut [u8])) -> io::Result<()> {
     let mut file = PlainFile::begin(out, Direction::Remittance)?;
     file.open_batch(BatchKind::Credit)?;
-    add_payments(&mut file, 10_000, HUNDRED)?;
+    add_payments(&mut file, Live, 10_000, HUNDRED)?;
     let [(kind, record), _] = plain_records::credit_records(&PAYEES[0], 1, HUNDRED);
     file.add_changed(kind, record, change)
 }
@@ -65,15 +107,20 @@ pub fn one_batch(out: &mut dyn io::Write, payments: u64) -> io::Result<()> {
     file.close()
 }
 
-/// The largest amounts in both batches, and one more payment in the second.
-pub fn two_batches(out: &mut dyn io::Write, last: u64) -> io::Result<()> {
+/// The largest amounts in both batches, each live or withdrawn as a whole, and
+/// one more payment in the second.
+pub fn two_batches(
+    out: &mut dyn io::Write,
+    [first, second]: [Movement; 2],
+    last: u64,
+) -> io::Result<()> {
     let mut file = PlainFile::begin(out, Direction::Remittance)?;
     file.open_batch(BatchKind::Credit)?;
-    add_payments(&mut file, LARGEST_PAYMENTS / 2, LARGEST_AMOUNT)?;
+    add_payments(&mut file, first, LARGEST_PAYMENTS / 2, LARGEST_AMOUNT)?;
     file.close_batch()?;
     file.open_batch(BatchKind::Credit)?;
-    add_payments(&mut file, LARGEST_PAYMENTS / 2, LARGEST_AMOUNT)?;
-    file.credit(0, last)?;
+    add_payments(&mut file, second, LARGEST_PAYMENTS / 2, LARGEST_AMOUNT)?;
+    add_payments(&mut file, second, 1, last)?;
     file.close_batch()?;
     file.close()
 }

@@ -10,6 +10,7 @@ pub mod good_records;
 pub mod good_requests;
 pub mod guarded_samples;
 pub mod limit_files;
+pub mod movements;
 pub mod numbering;
 pub mod plain_files;
 pub mod plain_records;

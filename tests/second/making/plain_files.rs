@@ -5,21 +5,26 @@ use std::io::{self, Write};
 
 use crate::making::due_dates::{due_date, DueDate};
 use crate::making::good_files::put_factor;
+use crate::making::movements::put_movement;
 use crate::making::numbering::Numbering;
 use crate::making::plain_records::{self, Bill, BANK, PAYEES};
 use crate::paper::calendar::MONTHS;
 use crate::paper::due_factors::LARGEST_FACTOR;
 use crate::paper::file_state::BatchKind;
 use crate::paper::lines::MOST_PAYMENTS;
+use crate::paper::places::INSTRUCTION;
 use crate::paper::record_kinds::{Direction, RecordKind};
+use crate::paper::totals::Movement;
 
 /// Names of the files, as they are asked for.
-pub const NAMES: [&str; 6] = [
+pub const NAMES: [&str; 8] = [
     "one-payment",
     "boleto",
     "last-round",
     "return",
     "batches",
+    "withdrawn",
+    "withdrawn-return",
     "bench N",
 ];
 const BENCH: &str = "bench";
@@ -30,6 +35,9 @@ const MOST_BENCH_PAYMENTS: u64 = 499_900;
 pub const HUNDRED: u64 = 10_000;
 pub const CREDIT_FORM: &[u8] = b"41";
 pub const BOLETO_FORM: &[u8] = b"31";
+/// Instruction codes: included but held back, and excluded.
+const HELD: &[u8] = b"09";
+const EXCLUDED: &[u8] = b"99";
 /// Due three days before the day these files are made, and later.
 const DUE_PAST: DueDate = *b"13112026";
 const DUE_SOON: DueDate = *b"19112026";
@@ -91,9 +99,21 @@ impl PlainFile<'_> {
     }
 
     pub fn credit(&mut self, payee: usize, cents: u64) -> io::Result<()> {
+        self.changed_credit(payee, cents, |_| {})
+    }
+
+    /// Adds a credit whose A is changed.
+    fn changed_credit(
+        &mut self,
+        payee: usize,
+        cents: u64,
+        change: fn(&mut [u8]),
+    ) -> io::Result<()> {
         self.documents += 1;
-        let records = plain_records::credit_records(&PAYEES[payee], self.documents, cents);
-        self.add_payment(records)
+        let [(kind, mut first), second] =
+            plain_records::credit_records(&PAYEES[payee], self.documents, cents);
+        change(&mut first);
+        self.add_payment([(kind, first), second])
     }
 
     pub fn boleto(&mut self, payee: usize, bill: Bill) -> io::Result<()> {
@@ -124,6 +144,11 @@ impl PlainFile<'_> {
     /// Only a return has it.
     pub fn z(&mut self) -> io::Result<()> {
         let record = plain_records::z_record(self.documents);
+        self.add(RecordKind::Z, record)
+    }
+
+    fn z_of_a_withdrawal(&mut self) -> io::Result<()> {
+        let record = plain_records::z_record_of_a_withdrawal(self.documents);
         self.add(RecordKind::Z, record)
     }
 
@@ -185,6 +210,8 @@ pub fn write(out: &mut dyn Write, name: &[String]) -> Result<(), String> {
         ["last-round"] => write_boletos(out, |record| put_factor(record, LARGEST_FACTOR)),
         ["return"] => write_return(out),
         ["batches"] => write_batches(out),
+        ["withdrawn"] => write_withdrawn(out),
+        ["withdrawn-return"] => write_withdrawn_return(out),
         [BENCH, payments] => write_bench(out, bench_payments(payments)?),
         _ => return Err(format!("no file is named {}", name.join(" "))),
     };
@@ -233,6 +260,45 @@ fn write_batches(out: &mut dyn Write) -> io::Result<()> {
     file.credit(3, 12_500)?;
     file.close_batch()?;
     file.close()
+}
+
+/// One of three credits and one of two boletos are withdrawn. The instruction
+/// codes are those that banks expect, but for the boleto's: they have no say.
+fn write_withdrawn(out: &mut dyn Write) -> io::Result<()> {
+    let mut file = PlainFile::begin(out, Direction::Remittance)?;
+    file.open_batch(BatchKind::Credit)?;
+    file.credit(0, 315_000)?;
+    file.changed_credit(1, 76_420, withdraw_and_exclude)?;
+    file.changed_credit(2, 89_990, |record| INSTRUCTION.put(record, HELD))?;
+    file.close_batch()?;
+    file.open_batch(BatchKind::Boleto)?;
+    file.boleto(1, bill(48_750, 0, 975, Some(DUE_PAST)))?;
+    file.changed_boleto(3, bill(21_435, 435, 0, Some(DUE_SOON)), withdraw)?;
+    file.close_batch()?;
+    file.close()
+}
+
+fn write_withdrawn_return(out: &mut dyn Write) -> io::Result<()> {
+    let mut file = PlainFile::begin(out, Direction::Return)?;
+    file.open_batch(BatchKind::Credit)?;
+    file.credit(0, 315_000)?;
+    file.z()?;
+    file.changed_credit(1, 76_420, withdraw_and_exclude)?;
+    file.z_of_a_withdrawal()?;
+    file.close_batch()?;
+    file.open_batch(BatchKind::Boleto)?;
+    file.changed_boleto(3, bill(21_435, 435, 0, Some(DUE_SOON)), withdraw)?;
+    file.close_batch()?;
+    file.close()
+}
+
+fn withdraw(record: &mut [u8]) {
+    put_movement(record, Movement::Withdrawn);
+}
+
+fn withdraw_and_exclude(record: &mut [u8]) {
+    withdraw(record);
+    INSTRUCTION.put(record, EXCLUDED);
 }
 
 /// One half of the payments is A, B, the other J, J52, in batches as large as

@@ -232,6 +232,13 @@ pub fn z_record(document: u64) -> Vec<u8> {
     record
 }
 
+/// What the bank says of a payment it will not make.
+pub fn z_record_of_a_withdrawal(document: u64) -> Vec<u8> {
+    let mut record = empty(RecordKind::Z);
+    put(&mut record, 15, &format!("EXCLUIDO {document:010}"));
+    record
+}
+
 pub fn trailer(kind: RecordKind) -> Vec<u8> {
     empty(kind)
 }

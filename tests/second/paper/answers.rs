@@ -35,7 +35,7 @@ impl fmt::Display for Verdict {
 pub struct AnswerLine {
     pub verdict: Verdict,
     /// For each field of a record that was read its number, or nothing where
-    /// the field is read as bytes; for an accepted file its four totals.
+    /// the field is read as bytes; for an accepted file its six numbers.
     pub numbers: Vec<Option<u64>>,
 }
 

@@ -2,6 +2,7 @@
 //! between two calls.
 
 use super::record_kinds::{Direction, RecordKind};
+use super::totals::Totals;
 
 #[derive(Clone, Copy, PartialEq, Eq)]
 pub enum BatchKind {
@@ -44,8 +45,7 @@ pub struct Batch {
     pub kind: BatchKind,
     pub last: Last,
     pub details: u64,
-    pub payments: u64,
-    pub cents: u128,
+    pub totals: Totals,
 }
 
 impl Batch {
@@ -54,8 +54,7 @@ impl Batch {
             kind,
             last: Last::Header,
             details: 0,
-            payments: 0,
-            cents: 0,
+            totals: Totals::default(),
         }
     }
 
@@ -82,9 +81,8 @@ pub struct State {
     pub direction: Direction,
     /// The open one included.
     pub batches: u64,
-    /// Payments and cents of closed batches only.
-    pub payments: u64,
-    pub cents: u128,
+    /// Of closed batches only.
+    pub totals: Totals,
 }
 
 impl State {
@@ -95,8 +93,7 @@ impl State {
             bank: Vec::new(),
             direction: Direction::Remittance,
             batches: 0,
-            payments: 0,
-            cents: 0,
+            totals: Totals::default(),
         }
     }
 
@@ -111,9 +108,17 @@ impl State {
         matches!(self.stage, Stage::Ended)
     }
 
-    /// Batches, records, payments and cents of a file that has ended.
-    pub fn totals(&self) -> [u64; 4] {
-        let cents = self.cents as u64;
-        [self.batches, self.accepted_lines, self.payments, cents]
+    /// What an acceptance says of a file that has ended: batches and records,
+    /// live payments and their cents, withdrawn payments and theirs.
+    pub fn accepted_numbers(&self) -> [u64; 6] {
+        let Totals { live, withdrawn } = self.totals;
+        [
+            self.batches,
+            self.accepted_lines,
+            live.payments,
+            live.cents as u64,
+            withdrawn.payments,
+            withdrawn.cents as u64,
+        ]
     }
 }

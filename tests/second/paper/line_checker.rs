@@ -8,6 +8,7 @@ use super::line_rules::LineRules;
 use super::numbers::{BEHIND_THE_END, NO_END, WRONG_LENGTH};
 use super::places::{self, BANK, SERVICE};
 use super::record_kinds::RecordKind;
+use super::totals::Movement;
 use super::Paper;
 
 pub struct LineChecker<Rules = Paper> {
@@ -58,7 +59,7 @@ impl<Rules: LineRules> LineChecker<Rules> {
     fn acceptance(&self) -> AnswerLine {
         AnswerLine {
             verdict: Verdict::Accepted,
-            numbers: self.state.totals().map(Some).to_vec(),
+            numbers: self.state.accepted_numbers().map(Some).to_vec(),
         }
     }
 
@@ -86,19 +87,18 @@ impl<Rules: LineRules> LineChecker<Rules> {
 
     fn close_batch(&mut self) {
         if let Stage::InBatch(batch) = &self.state.stage {
-            self.state.payments += batch.payments;
-            self.state.cents += batch.cents;
+            self.state.totals.add(batch.totals);
             self.state.stage = Stage::BetweenBatches;
         }
     }
 
-    /// Every payment counts and is summed, movement 9 included.
+    /// A payment counts, live or withdrawn, by its first record.
     fn take_detail(&mut self, kind: RecordKind, line: &[u8]) {
         if let Stage::InBatch(batch) = &mut self.state.stage {
             batch.details += 1;
             if let Some(amount) = places::amount(kind) {
-                batch.payments += 1;
-                batch.cents += u128::from(amount.number(line));
+                let movement = Movement::of(line);
+                batch.totals.add_payment(movement, amount.number(line));
             }
             batch.last = match kind {
                 RecordKind::A | RecordKind::J => Last::FirstRecord,

@@ -142,7 +142,7 @@ pub trait LineRules: RecordRules + BoletoRules {
                 (!right).then_some((WRONG_SEGMENT, SEGMENT.first))
             }
             Row::PaymentLimit => {
-                let over = state.batch()?.payments >= MOST_PAYMENTS;
+                let over = self.payments_in(state.batch()?) >= MOST_PAYMENTS;
                 let begins_payment = places::amount(kind).is_some();
                 (over && begins_payment).then_some((OVER_A_LIMIT, SEGMENT.first))
             }
@@ -154,6 +154,11 @@ pub trait LineRules: RecordRules + BoletoRules {
 
     fn most_batches(&self) -> u64 {
         MOST_BATCHES
+    }
+
+    /// Live and withdrawn ones together.
+    fn payments_in(&self, batch: &Batch) -> u64 {
+        batch.totals.payments()
     }
 
     /// Only the file header has nothing to compare its bank with.
@@ -184,7 +189,7 @@ pub trait LineRules: RecordRules + BoletoRules {
                 (!right).then_some((WRONG_SUM, BATCH_SUM.first))
             }
             Row::Total => {
-                let total = state.cents + state.batch()?.cents;
+                let total = self.total(state, state.batch()?);
                 self.is_too_large(total)
                     .then_some((TOTAL_TOO_LARGE, BATCH_SUM.first))
             }
@@ -201,9 +206,19 @@ pub trait LineRules: RecordRules + BoletoRules {
         }
     }
 
+    /// The sum is of every payment, movement 9 included.
     fn sum_is_right(&self, state: &State, line: &[u8]) -> bool {
         let sum = u128::from(BATCH_SUM.number(line));
-        state.batch().is_some_and(|batch| batch.cents == sum)
+        state.batch().is_some_and(|batch| self.sum_of(batch) == sum)
+    }
+
+    fn sum_of(&self, batch: &Batch) -> u128 {
+        batch.totals.cents()
+    }
+
+    /// All batches so far with this one.
+    fn total(&self, state: &State, batch: &Batch) -> u128 {
+        state.totals.cents() + batch.totals.cents()
     }
 
     fn is_too_large(&self, total: u128) -> bool {

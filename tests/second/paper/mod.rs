@@ -1,5 +1,5 @@
-//! The papers read again: document 01, with request 3 of document 02 in it. To
-//! be laid beside document 01, section by section:
+//! The papers read again: document 01, with requests 3 and 13 of document 02 in
+//! it. To be laid beside document 01, section by section:
 //!
 //! | section of document 01 | here |
 //! |---|---|
@@ -8,7 +8,7 @@
 //! | Boleto digits | `digit_strings`, `due_factors`, `boleto_rules` |
 //! | Numbers we act on: the table | `numbers`, `answers` |
 //! | .. one record alone | `record_rules`, `records` |
-//! | .. the line checker, whole files | `line_order`, `line_rules`, `file_state`, `line_checker`, `file_reader` |
+//! | .. the line checker, whole files | `line_order`, `line_rules`, `file_state`, `totals`, `payments`, `line_checker`, `file_reader` |
 //! | .. the writer's calls | `writer_calls`, `writer_order`, `writer_rules`, `writer_record_rules`, `writer_fill`, `writer` |
 //! | Guarded places | `guarded_places` |
 //! | Table of proved examples | `examples` |
@@ -32,10 +32,12 @@ pub mod line_order;
 pub mod line_rules;
 pub mod lines;
 pub mod numbers;
+pub mod payments;
 pub mod places;
 pub mod record_kinds;
 pub mod record_rules;
 pub mod records;
+pub mod totals;
 pub mod writer;
 pub mod writer_calls;
 pub mod writer_fill;

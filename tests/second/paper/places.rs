@@ -57,6 +57,7 @@ pub const SERVICE: Part = part(10, 11);
 pub const SERVICE_AND_FORM: Part = part(10, 13);
 
 pub const MOVEMENT: Part = part(15, 15);
+pub const INSTRUCTION: Part = part(16, 17);
 pub const AMOUNT_OF_A: Part = part(120, 134);
 pub const AMOUNT_OF_J: Part = part(153, 167);
 

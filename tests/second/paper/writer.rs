@@ -8,6 +8,7 @@ use super::lines::{LINE_BYTES, LINE_END};
 use super::places::{self, BANK, DIRECTION};
 use super::record_kinds::{Direction, RecordKind};
 use super::record_rules::{Draft, Refusal};
+use super::totals::Movement;
 use super::writer_calls::{CallKind, WriterCall};
 use super::writer_fill::Unfilled;
 use super::writer_order::Row;
@@ -65,7 +66,7 @@ impl<Rules: WriterRules> Writer<Rules> {
         self.advance(&kinds, &drafts);
         let mut line = AnswerLine::plain(Verdict::Accepted);
         if call.kind == CallKind::CloseFile {
-            line.numbers = self.state.totals().map(Some).to_vec();
+            line.numbers = self.state.accepted_numbers().map(Some).to_vec();
         }
         line
     }
@@ -146,19 +147,18 @@ impl<Rules: WriterRules> Writer<Rules> {
 
     fn close_batch(&mut self) {
         if let Stage::InBatch(batch) = &self.state.stage {
-            self.state.payments += batch.payments;
-            self.state.cents += batch.cents;
+            self.state.totals.add(batch.totals);
             self.state.stage = Stage::BetweenBatches;
         }
     }
 
-    /// Every payment counts and is summed, movement 9 included.
+    /// A payment counts, live or withdrawn, by its first record.
     fn take_detail(&mut self, kind: RecordKind, record: &[u8]) {
         if let Stage::InBatch(batch) = &mut self.state.stage {
             batch.details += 1;
             if let Some(amount) = places::amount(kind) {
-                batch.payments += 1;
-                batch.cents += u128::from(amount.number(record));
+                let movement = Movement::of(record);
+                batch.totals.add_payment(movement, amount.number(record));
             }
         }
     }

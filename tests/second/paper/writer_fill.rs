@@ -85,7 +85,7 @@ pub fn own_number(unfilled: Unfilled, part: Part) -> u64 {
         before,
     } = unfilled;
     let details = state.batch().map_or(0, |batch| batch.details);
-    let sum = state.batch().map_or(0, |batch| batch.cents);
+    let sum = state.batch().map_or(0, |batch| batch.totals.cents());
     match part {
         BANK => number_of(&state.bank),
         BATCH_NUMBER => number_of_batch(kind, state),

@@ -1,13 +1,14 @@
 //! The tests of one call to the writer. What a call may be depends on the calls
 //! accepted before it, and on no byte of the output.
 
-use super::file_state::{Stage, State};
+use super::file_state::{Batch, Stage, State};
 use super::lines::{CENTS_LIMIT, LINE_BYTES, MOST_BATCHES, MOST_PAYMENTS};
 use super::numbers::TOTAL_TOO_LARGE;
 use super::numbers::{OUTPUT_TOO_SHORT, OUT_OF_TURN, OVER_A_LIMIT, TOO_MANY_RECORDS};
 use super::places::{self, SEGMENT, TYPE};
 use super::record_kinds::RecordKind;
 use super::record_rules::{Draft, Refusal};
+use super::totals::{Movement, Totals};
 use super::writer_calls::{CallKind, WriterCall};
 use super::writer_fill::Filling;
 use super::writer_order::{rows_in_order, Row};
@@ -37,11 +38,18 @@ impl Attempt<'_> {
         self.kinds.len()
     }
 
-    /// What the payment adds to its batch; nothing in other calls.
-    fn amount(&self) -> u128 {
-        let part = self.kinds.first().and_then(|kind| places::amount(*kind));
-        let amount = part.map_or(0, |part| part.number(&self.drafts[0].bytes));
-        u128::from(amount)
+    /// Of all payments so far with this one; other calls bring none.
+    pub fn totals(&self) -> Totals {
+        let mut totals = self.state.totals;
+        if let Some(batch) = self.state.batch() {
+            totals.add(batch.totals);
+        }
+        let amount = self.kinds.first().and_then(|kind| places::amount(*kind));
+        if let Some(amount) = amount {
+            let first = &self.drafts[0].bytes;
+            totals.add_payment(Movement::of(first), amount.number(first));
+        }
+        totals
     }
 
     /// The first line the call would have written, or the line of the record
@@ -78,8 +86,7 @@ pub trait WriterRules: GivenRecordRules + Filling {
             Row::Field(at, field) => self.given_field_refusal(attempt, at, field),
             Row::Boleto(at, rule) => self.given_boleto_refusal(&attempt.drafts[at], rule),
             Row::Total => {
-                let batch = attempt.state.batch().map_or(0, |batch| batch.cents);
-                let total = attempt.state.cents + batch + attempt.amount();
+                let total = self.total_written(attempt.totals());
                 (total >= CENTS_LIMIT).then_some((TOTAL_TOO_LARGE, 0))
             }
             Row::Room => (!self.has_room(attempt)).then_some((OUTPUT_TOO_SHORT, 0)),
@@ -92,7 +99,7 @@ pub trait WriterRules: GivenRecordRules + Filling {
             (CallKind::OpenFile, Stage::Start) => true,
             (CallKind::OpenBatch, Stage::BetweenBatches) => true,
             (CallKind::Payment, Stage::InBatch(_)) => true,
-            (CallKind::CloseBatch, Stage::InBatch(batch)) => batch.payments > 0,
+            (CallKind::CloseBatch, Stage::InBatch(batch)) => batch.totals.payments() > 0,
             (CallKind::CloseFile, Stage::BetweenBatches) => attempt.state.batches > 0,
             _ => false,
         }
@@ -102,7 +109,10 @@ pub trait WriterRules: GivenRecordRules + Filling {
         let state = attempt.state;
         let (over, part) = match attempt.call.kind {
             CallKind::OpenBatch => (state.batches >= self.most_batches_written(), TYPE),
-            CallKind::Payment => (state.batch()?.payments >= MOST_PAYMENTS, SEGMENT),
+            CallKind::Payment => {
+                let payments = self.payments_written(state.batch()?);
+                (payments >= MOST_PAYMENTS, SEGMENT)
+            }
             _ => return None,
         };
         over.then_some((OVER_A_LIMIT, part.first))
@@ -110,6 +120,16 @@ pub trait WriterRules: GivenRecordRules + Filling {
 
     fn most_batches_written(&self) -> u64 {
         MOST_BATCHES
+    }
+
+    /// Live and withdrawn ones together.
+    fn payments_written(&self, batch: &Batch) -> u64 {
+        batch.totals.payments()
+    }
+
+    /// The cents of live and withdrawn payments together.
+    fn total_written(&self, totals: Totals) -> u128 {
+        totals.cents()
     }
 
     /// From the place reached, which may lie behind all that is lent.

@@ -2,7 +2,10 @@
 //! notice one of them would not notice the same mistake in the payment desk
 //! either.
 
-use super::writer_faults::{WriterFault, WRITER_FAULTS};
+use super::limits::{LimitFault, LIMIT_FAULTS};
+use super::names::hyphenated;
+use super::totals::{TotalsFault, TOTALS_FAULTS};
+use super::writer_faults::{of_the_writer, WriterFault, WRITER_FAULTS};
 
 #[derive(Clone, Copy, PartialEq, Eq)]
 pub enum Fault {
@@ -69,7 +72,13 @@ pub enum Fault {
     SumTestedInFirstBatchOnly,
     TotalUnlimited,
     TotalAtTheLimitTaken,
-    MovementNineNotSummed,
+    SumOfLiveOnly,
+    SumOfWithdrawnOnly,
+    LiveRecordsCounted,
+    BatchWithoutLivePaymentRefused,
+    WithdrawnBoletosNotTested,
+    OldNumbersOfAWholeFile,
+    OldNumbersAtADeclaredEnd,
     ZCountedAsPayment,
     DiscountAdded,
     SmallFactorsNotCounted,
@@ -88,7 +97,12 @@ pub enum Fault {
     RefusedLineMovesTheState,
     LinesCountedByCalls,
     RefusalKeptToTheEnd,
+    /// Of the reader, and then the same of the writer.
+    Totals(TotalsFault),
+    Limit(LimitFault),
     Writer(WriterFault),
+    WriterTotals(TotalsFault),
+    WriterLimit(LimitFault),
 }
 
 /// Mistakes about digit strings and records alone.
@@ -170,7 +184,7 @@ const NAMED_FAULTS: [(&str, Fault); 38] = [
 ];
 
 /// Mistakes about the lines of files.
-const NAMED_FILE_FAULTS: [(&str, Fault); 44] = [
+const NAMED_FILE_FAULTS: [(&str, Fault); 52] = [
     ("length-before-end", Fault::LengthBeforeEnd),
     ("line-end-before-bytes", Fault::LineEndBeforeBytes),
     ("batch-limit-behind-bank", Fault::BatchLimitBehindBank),
@@ -208,7 +222,30 @@ const NAMED_FILE_FAULTS: [(&str, Fault); 44] = [
     ),
     ("total-unlimited", Fault::TotalUnlimited),
     ("total-at-the-limit-taken", Fault::TotalAtTheLimitTaken),
-    ("movement-nine-not-summed", Fault::MovementNineNotSummed),
+    ("sum-of-live-only", Fault::SumOfLiveOnly),
+    ("sum-of-withdrawn-only", Fault::SumOfWithdrawnOnly),
+    ("live-records-counted", Fault::LiveRecordsCounted),
+    (
+        "batch-without-live-payment-refused",
+        Fault::BatchWithoutLivePaymentRefused,
+    ),
+    (
+        "withdrawn-boletos-not-tested",
+        Fault::WithdrawnBoletosNotTested,
+    ),
+    ("old-numbers-of-a-whole-file", Fault::OldNumbersOfAWholeFile),
+    (
+        "old-numbers-at-a-declared-end",
+        Fault::OldNumbersAtADeclaredEnd,
+    ),
+    (
+        "total-of-live-only",
+        Fault::Limit(LimitFault::TotalOfLiveOnly),
+    ),
+    (
+        "total-of-withdrawn-only",
+        Fault::Limit(LimitFault::TotalOfWithdrawnOnly),
+    ),
     ("z-counted-as-payment", Fault::ZCountedAsPayment),
     ("discount-added", Fault::DiscountAdded),
     ("small-factors-not-counted", Fault::SmallFactorsNotCounted),
@@ -250,14 +287,40 @@ pub const TOPICS: [Topic; 3] = [Topic::StringsAndRecords, Topic::Files, Topic::W
 
 /// All faults about a topic with their names.
 pub fn faults_about(topic: Topic) -> Vec<(String, Fault)> {
-    let named = match topic {
-        Topic::StringsAndRecords => NAMED_FAULTS.as_slice(),
-        Topic::Files => NAMED_FILE_FAULTS.as_slice(),
+    let totals = TOTALS_FAULTS.iter();
+    let mut faults = match topic {
+        Topic::StringsAndRecords => named(&NAMED_FAULTS),
+        Topic::Files => named(&NAMED_FILE_FAULTS),
         Topic::Writer => {
             let faults = WRITER_FAULTS.iter();
-            return faults.map(|f| (f.name(), Fault::Writer(*f))).collect();
+            faults.map(|f| (f.name(), Fault::Writer(*f))).collect()
         }
     };
-    let named = named.iter();
-    named.map(|(name, f)| (name.to_string(), *f)).collect()
+    match topic {
+        Topic::StringsAndRecords => {}
+        Topic::Files => faults.extend(totals.map(|f| (hyphenated(f), Fault::Totals(*f)))),
+        Topic::Writer => {
+            faults.extend(totals.map(|f| (of_the_writer(hyphenated(f)), Fault::WriterTotals(*f))));
+        }
+    }
+    faults
+}
+
+fn named(faults: &[(&str, Fault)]) -> Vec<(String, Fault)> {
+    let faults = faults.iter();
+    faults.map(|(name, f)| (name.to_string(), *f)).collect()
+}
+
+/// Mistakes of the reader that whole files at the limits show.
+pub fn limit_faults() -> Vec<(String, Fault)> {
+    let faults = LIMIT_FAULTS.iter();
+    faults.map(|f| (hyphenated(f), Fault::Limit(*f))).collect()
+}
+
+/// Mistakes of the writer that no script is long enough to show.
+pub fn writer_limit_faults() -> Vec<(String, Fault)> {
+    let faults = LIMIT_FAULTS.iter();
+    faults
+        .map(|f| (of_the_writer(hyphenated(f)), Fault::WriterLimit(*f)))
+        .collect()
 }

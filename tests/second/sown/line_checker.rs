@@ -2,14 +2,19 @@
 //! a line, in the lines its refusals name, and in how a file is cut into lines.
 
 use super::faults::Fault;
+use super::totals::Miscount;
 use super::Sown;
 use crate::paper::answers::{AnswerLine, Verdict};
 use crate::paper::file_state::{Last, Stage};
 use crate::paper::line_checker::LineChecker;
-use crate::paper::lines::{CENTS_LIMIT, LINE_BYTES};
+use crate::paper::line_rules::LineRules;
+use crate::paper::lines::LINE_BYTES;
 use crate::paper::numbers::{BEHIND_THE_END, BLANK_BEFORE_TEXT, NON_DIGIT, NO_DATE_OR_TIME};
-use crate::paper::numbers::{OUTSIDE_DOMAIN, WRONG_FIXED_CONTENT, WRONG_LENGTH};
-use crate::paper::places::{AMOUNT_OF_A, AMOUNT_OF_J, MOVEMENT, SEGMENT};
+use crate::paper::numbers::{OUTSIDE_DOMAIN, WRONG_AMOUNT, WRONG_CENTS, WRONG_CHECK};
+use crate::paper::numbers::{WRONG_DUE_DATE, WRONG_FIXED_CONTENT, WRONG_LENGTH};
+use crate::paper::places;
+use crate::paper::record_kinds::RecordKind;
+use crate::paper::totals::Movement;
 
 /// The numbers of a line that is in its turn and has a wrong field.
 const FIELD_NUMBERS: [u32; 5] = [
@@ -19,7 +24,8 @@ const FIELD_NUMBERS: [u32; 5] = [
     OUTSIDE_DOMAIN,
     NO_DATE_OR_TIME,
 ];
-pub const EXCLUDED_MOVEMENT: &[u8] = b"9";
+/// The numbers of a boleto whose fields are right each for itself.
+const BOLETO_NUMBERS: [u32; 4] = [WRONG_CHECK, WRONG_DUE_DATE, WRONG_CENTS, WRONG_AMOUNT];
 
 impl Sown {
     pub fn file_line(self, bytes: &[u8]) -> AnswerLine {
@@ -39,15 +45,28 @@ impl Sown {
                 begun.clear();
             }
         }
-        checker.end(begun.len())
+        let line = checker.end(begun.len());
+        self.with_old_numbers(Fault::OldNumbersOfAWholeFile, line)
     }
 
     pub fn call_lines(self, calls: &[&[u8]]) -> Vec<AnswerLine> {
         let mut checker = SownChecker::with(self);
         let verdicts = calls.iter().map(|call| checker.line(call));
         let mut lines: Vec<AnswerLine> = verdicts.map(AnswerLine::plain).collect();
-        lines.push(checker.end(0));
+        lines.push(self.with_old_numbers(Fault::OldNumbersAtADeclaredEnd, checker.end(0)));
         lines
+    }
+
+    /// With this fault, the numbers that document 01 had before request 13.
+    fn with_old_numbers(self, fault: Fault, mut line: AnswerLine) -> AnswerLine {
+        if let (true, [batches, records, live @ .., payments, cents]) =
+            (self.has(fault), line.numbers.as_slice())
+        {
+            let both = live.iter().zip([payments, cents]);
+            let both = both.map(|(live, withdrawn)| Some((*live)? + (*withdrawn)?));
+            line.numbers = [*batches, *records].into_iter().chain(both).collect();
+        }
+        line
     }
 }
 
@@ -57,6 +76,10 @@ struct SownChecker {
     inner: LineChecker<Sown>,
     calls: u64,
     last_refusal: Option<Verdict>,
+    /// The lines accepted so far, and how many withdrawn payments were not: kept
+    /// only for a fault in the totals.
+    accepted: Vec<u8>,
+    refused_withdrawn: u64,
 }
 
 impl SownChecker {
@@ -66,6 +89,8 @@ impl SownChecker {
             inner: LineChecker::by(sown),
             calls: 0,
             last_refusal: None,
+            accepted: Vec::new(),
+            refused_withdrawn: 0,
         }
     }
 
@@ -73,11 +98,14 @@ impl SownChecker {
         if line.is_empty() && self.sown.has(Fault::EmptyCallTaken) {
             return Verdict::Accepted;
         }
+        let kind = self.sown.kind_here(&self.inner.state, line);
         let right = self.inner.line(line);
-        let verdict = self.renamed(right);
+        self.remember(kind, line, right);
+        let let_pass = self.let_pass(line, right);
+        let verdict = self.renamed(let_pass);
         self.calls += 1;
         match verdict {
-            Verdict::Accepted => self.spoil_batch(line),
+            Verdict::Accepted => self.spoil_batch(),
             Verdict::Refused { number, .. } => {
                 self.last_refusal = Some(verdict);
                 let in_turn = FIELD_NUMBERS.contains(&number);
@@ -96,12 +124,44 @@ impl SownChecker {
         }
         let mut line = self.inner.end(begun);
         line.verdict = self.renamed(line.verdict);
+        if let (Some(fault), Verdict::Accepted) = (self.sown.totals_fault(), line.verdict) {
+            let miscount = Miscount::of(fault, &self.accepted, self.refused_withdrawn);
+            line.numbers = miscount.numbers(&line.numbers);
+        }
         if let Verdict::Refused { number, .. } = &mut line.verdict {
             if *number == BEHIND_THE_END && self.sown.has(Fault::LengthBeforeEnd) {
                 *number = WRONG_LENGTH;
             }
         }
         line
+    }
+
+    fn remember(&mut self, kind: Option<RecordKind>, line: &[u8], verdict: Verdict) {
+        if self.sown.totals_fault().is_none() {
+            return;
+        }
+        if verdict == Verdict::Accepted {
+            self.accepted.extend_from_slice(line);
+        } else if kind.and_then(places::amount).is_some() {
+            let withdrawn = Movement::of(line) == Movement::Withdrawn;
+            self.refused_withdrawn += u64::from(withdrawn);
+        }
+    }
+
+    /// A boleto that is refused for its barcode or its amount, and is withdrawn.
+    fn let_pass(&mut self, line: &[u8], verdict: Verdict) -> Verdict {
+        match verdict {
+            Verdict::Refused { number, .. }
+                if self.sown.has(Fault::WithdrawnBoletosNotTested)
+                    && BOLETO_NUMBERS.contains(&number)
+                    && Movement::of(line) == Movement::Withdrawn =>
+            {
+                self.inner.advance(line);
+                self.inner.state.accepted_lines += 1;
+                Verdict::Accepted
+            }
+            _ => verdict,
+        }
     }
 
     /// The line that a refusal names.
@@ -115,24 +175,10 @@ impl SownChecker {
     }
 
     /// What the batch knows after a line of it was accepted.
-    fn spoil_batch(&mut self, line: &[u8]) {
-        let batch = match &mut self.inner.state.stage {
-            Stage::InBatch(batch) => batch,
-            _ => return,
-        };
-        match self.sown.fault {
-            Fault::SumsIn32Bits => batch.cents = u128::from(batch.cents as u32),
-            Fault::SumsCutTo18Digits => batch.cents %= CENTS_LIMIT,
-            Fault::ZCountedAsPayment => batch.payments += u64::from(batch.last == Last::Z),
-            Fault::MovementNineNotSummed => {
-                let excluded = MOVEMENT.of(line) == EXCLUDED_MOVEMENT;
-                if batch.last == Last::FirstRecord && excluded {
-                    let is_credit = SEGMENT.of(line) == b"A";
-                    let amount = if is_credit { AMOUNT_OF_A } else { AMOUNT_OF_J };
-                    batch.cents -= u128::from(amount.number(line));
-                }
-            }
-            _ => {}
+    fn spoil_batch(&mut self) {
+        if let Stage::InBatch(batch) = &mut self.inner.state.stage {
+            let is_z = batch.last == Last::Z && self.sown.has(Fault::ZCountedAsPayment);
+            batch.totals.live.payments += u64::from(is_z);
         }
     }
 }

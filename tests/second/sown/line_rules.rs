@@ -1,6 +1,7 @@
 //! Mistakes about one line of a file.
 
 use super::faults::Fault;
+use super::limits;
 use super::order::move_before;
 use super::Sown;
 use crate::paper::boleto_rules::BoletoRule;
@@ -9,12 +10,14 @@ use crate::paper::line_order::Row;
 use crate::paper::line_rules::{detail_by_place, LineRules};
 use crate::paper::lines::CENTS_LIMIT;
 use crate::paper::numbers::NON_DIGIT;
-use crate::paper::places::{Part, BANK, FILE_BATCHES, J52_MARK, SEGMENT};
+use crate::paper::places::{Part, BANK, BATCH_SUM, FILE_BATCHES, J52_MARK, SEGMENT};
 use crate::paper::record_kinds::{Direction, RecordKind};
 use crate::paper::record_rules::{all_digits, Refusal};
 use crate::paper::Paper;
 
 const MARK_OF_J52: &[u8] = b"52";
+/// Without a Z behind them.
+pub const RECORDS_OF_A_PAYMENT: u64 = 2;
 
 impl LineRules for Sown {
     fn line_rows(&self, kind: Option<RecordKind>) -> Vec<Row> {
@@ -34,7 +37,9 @@ impl LineRules for Sown {
 
     fn may_close(&self, batch: &Batch) -> bool {
         let empty_taken = self.has(Fault::BatchWithoutPaymentTaken) && batch.last == Last::Header;
-        Paper.may_close(batch) || empty_taken
+        let live_asked = self.has(Fault::BatchWithoutLivePaymentRefused);
+        let kept_open = live_asked && batch.totals.live.payments == 0;
+        (Paper.may_close(batch) || empty_taken) && !kept_open
     }
 
     fn detail_here(&self, state: &State, batch: &Batch, line: &[u8]) -> RecordKind {
@@ -87,7 +92,11 @@ impl LineRules for Sown {
     fn count(&self, kind: RecordKind, part: Part, state: &State) -> u64 {
         let of_records = kind == RecordKind::FileTrailer && part != FILE_BATCHES;
         match (self.fault, state.batch()) {
-            (Fault::TrailerCountsPayments, Some(batch)) => batch.payments,
+            (Fault::TrailerCountsPayments, Some(batch)) => batch.totals.payments(),
+            (Fault::LiveRecordsCounted, Some(batch)) => {
+                let left_out = RECORDS_OF_A_PAYMENT * batch.totals.withdrawn.payments;
+                Paper.count(kind, part, state) - left_out
+            }
             (Fault::FileEndsNotCounted, None) if of_records => state.accepted_lines - 1,
             _ => Paper.count(kind, part, state),
         }
@@ -95,7 +104,35 @@ impl LineRules for Sown {
 
     fn sum_is_right(&self, state: &State, line: &[u8]) -> bool {
         let untested = self.has(Fault::SumTestedInFirstBatchOnly) && state.batches > 1;
-        untested || Paper.sum_is_right(state, line)
+        let sum = u128::from(BATCH_SUM.number(line));
+        untested || state.batch().map(|batch| self.sum_of(batch)) == Some(sum)
+    }
+
+    fn sum_of(&self, batch: &Batch) -> u128 {
+        let right = Paper.sum_of(batch);
+        match self.fault {
+            Fault::SumOfLiveOnly => batch.totals.live.cents,
+            Fault::SumOfWithdrawnOnly => batch.totals.withdrawn.cents,
+            Fault::SumsIn32Bits => u128::from(right as u32),
+            Fault::SumsCutTo18Digits => right % CENTS_LIMIT,
+            _ => right,
+        }
+    }
+
+    fn payments_in(&self, batch: &Batch) -> u64 {
+        match self.limit_fault() {
+            Some(fault) => limits::payments(fault, batch.totals),
+            None => Paper.payments_in(batch),
+        }
+    }
+
+    fn total(&self, state: &State, batch: &Batch) -> u128 {
+        let mut totals = state.totals;
+        totals.add(batch.totals);
+        match self.limit_fault() {
+            Some(fault) => limits::cents(fault, totals),
+            None => Paper.total(state, batch),
+        }
     }
 
     fn is_too_large(&self, total: u128) -> bool {

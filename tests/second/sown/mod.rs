@@ -10,10 +10,13 @@ mod calendar;
 mod digit_strings;
 mod due_factors;
 pub mod faults;
+mod limits;
 mod line_checker;
 mod line_rules;
+mod names;
 mod order;
 mod records;
+mod totals;
 mod writer;
 mod writer_faults;
 mod writer_fill;
@@ -24,6 +27,8 @@ mod writer_slips;
 pub use due_factors::mistaken_factors;
 
 use faults::Fault;
+use limits::LimitFault;
+use totals::TotalsFault;
 use writer_faults::WriterFault;
 
 /// The rules of the papers with one fault in them.
@@ -45,6 +50,35 @@ impl Sown {
     fn writer_fault(self) -> Option<WriterFault> {
         match self.fault {
             Fault::Writer(fault) => Some(fault),
+            _ => None,
+        }
+    }
+
+    /// The fault, if it is one of the reader in the totals.
+    fn totals_fault(self) -> Option<TotalsFault> {
+        match self.fault {
+            Fault::Totals(fault) => Some(fault),
+            _ => None,
+        }
+    }
+
+    fn writer_totals_fault(self) -> Option<TotalsFault> {
+        match self.fault {
+            Fault::WriterTotals(fault) => Some(fault),
+            _ => None,
+        }
+    }
+
+    fn limit_fault(self) -> Option<LimitFault> {
+        match self.fault {
+            Fault::Limit(fault) => Some(fault),
+            _ => None,
+        }
+    }
+
+    fn writer_limit_fault(self) -> Option<LimitFault> {
+        match self.fault {
+            Fault::WriterLimit(fault) => Some(fault),
             _ => None,
         }
     }

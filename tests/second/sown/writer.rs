@@ -1,15 +1,17 @@
 //! Mistakes of the writer around its calls: what it writes beside the records,
 //! what it counts, and the lines and places that its refusals name.
 
-use super::line_checker::EXCLUDED_MOVEMENT;
+use super::totals::{Miscount, TotalsFault};
 use super::writer_faults::WriterFault;
 use super::Sown;
+use crate::making::movements::given_movement;
 use crate::paper::answers::{AnswerLine, Verdict};
 use crate::paper::file_state::{Batch, Stage};
 use crate::paper::lines::{LINE_BYTES, RECORD_BYTES};
 use crate::paper::numbers::{OUTPUT_TOO_SHORT, OUT_OF_TURN, OVER_A_LIMIT, WRONG_SEGMENT};
-use crate::paper::places::{MOVEMENT, NOMINAL, TYPE};
+use crate::paper::places::{self, NOMINAL, TYPE};
 use crate::paper::record_kinds::{Direction, RecordKind};
+use crate::paper::totals::Movement;
 use crate::paper::writer::{Output, Writer};
 use crate::paper::writer_calls::{CallKind, WriterCall};
 
@@ -18,19 +20,24 @@ const SWAPPED_LINE_END: &[u8] = b"\n\r";
 /// The paper's writer, with what a fault does before and behind its calls.
 pub struct SownWriter {
     pub fault: Option<WriterFault>,
+    totals_fault: Option<TotalsFault>,
     pub inner: Writer<Sown>,
     accepted_calls: u64,
     /// Where the header of the last batch begins.
     pub header_at: usize,
+    /// So many withdrawn payments were refused.
+    refused_withdrawn: u64,
 }
 
 impl SownWriter {
     pub fn with(sown: Sown) -> SownWriter {
         SownWriter {
             fault: sown.writer_fault(),
+            totals_fault: sown.writer_totals_fault(),
             inner: Writer::by(sown),
             accepted_calls: 0,
             header_at: 0,
+            refused_withdrawn: 0,
         }
     }
 
@@ -53,6 +60,7 @@ impl SownWriter {
         output.lent = lent;
         if let Verdict::Refused { number, .. } = answer.verdict {
             answer.verdict = self.renamed(call, answer.verdict);
+            self.remember_refused(call);
             self.slip_at_refusal(call, number, output);
             return answer;
         }
@@ -63,7 +71,19 @@ impl SownWriter {
             let records = answer.numbers.iter_mut().skip(1).take(1);
             records.flatten().for_each(|records| *records -= 1);
         }
+        if let (Some(fault), CallKind::CloseFile) = (self.totals_fault, call.kind) {
+            let miscount = Miscount::of(fault, &self.inner.file, self.refused_withdrawn);
+            answer.numbers = miscount.numbers(&answer.numbers);
+        }
         answer
+    }
+
+    fn remember_refused(&mut self, call: &WriterCall) {
+        let first = call.kinds().first().copied();
+        if first.and_then(places::amount).is_some() {
+            let withdrawn = given_movement(call) == Movement::Withdrawn;
+            self.refused_withdrawn += u64::from(withdrawn);
+        }
     }
 
     /// The line and the place that a refusal names.
@@ -133,11 +153,6 @@ impl SownWriter {
                 state.direction = Direction::Remittance;
             }
             CallKind::OpenBatch => self.header_at = before.cursor,
-            CallKind::CloseBatch if self.fault == Some(WriterFault::TotalsOfTheLastBatch) => {
-                let batch = before.batch.as_ref();
-                state.payments = batch.map_or(0, |batch| batch.payments);
-                state.cents = batch.map_or(0, |batch| batch.cents);
-            }
             CallKind::Payment => self.spoil_batch(call, before),
             _ => {}
         }
@@ -146,22 +161,20 @@ impl SownWriter {
     fn spoil_batch(&mut self, call: &WriterCall, before: &Before) {
         let first = &self.inner.file[before.written..];
         let kinds = call.kinds();
-        let cents = before.batch.as_ref().map_or(0, |batch| batch.cents);
+        let totals_before = before.batch.as_ref().map(|batch| batch.totals);
         let batch = match &mut self.inner.state.stage {
             Stage::InBatch(batch) => batch,
             _ => return,
         };
         match self.fault {
-            Some(WriterFault::SumsIn32Bits) => batch.cents = u128::from(batch.cents as u32),
             Some(WriterFault::ZCountedAsPayment) => {
                 let zs = kinds.iter().filter(|kind| **kind == RecordKind::Z);
-                batch.payments += zs.count() as u64;
-            }
-            Some(WriterFault::MovementNineNotSummed) if MOVEMENT.of(first) == EXCLUDED_MOVEMENT => {
-                batch.cents = cents;
+                batch.totals.live.payments += zs.count() as u64;
             }
             Some(WriterFault::NominalSummed) if kinds[0] == RecordKind::J => {
-                batch.cents = cents + u128::from(NOMINAL.number(first));
+                batch.totals = totals_before.unwrap_or_default();
+                let movement = Movement::of(first);
+                batch.totals.add_payment(movement, NOMINAL.number(first));
             }
             _ => {}
         }

@@ -1,18 +1,9 @@
-//! Seeded faults of the writer, which are many: each is named once, and its
-//! name in a command follows from that.
+//! Seeded faults of the writer, which are many.
 
-macro_rules! writer_faults {
-    ($($fault:ident,)*) => {
-        #[derive(Clone, Copy, PartialEq, Eq, Debug)]
-        pub enum WriterFault {
-            $($fault,)*
-        }
+use super::names::{fault_list, hyphenated};
 
-        pub const WRITER_FAULTS: &[WriterFault] = &[$(WriterFault::$fault,)*];
-    };
-}
-
-writer_faults! {
+fault_list! {
+    WriterFault, WRITER_FAULTS,
     // The order of refusals.
     LimitBeforeTurn,
     RoomFirst,
@@ -40,6 +31,7 @@ writer_faults! {
     BatchOpenedInABatch,
     EmptyBatchClosed,
     EmptyLaterBatchClosed,
+    BatchWithoutLivePaymentKeptOpen,
     EmptyFileClosed,
     FileClosedInABatch,
     BatchTooManyTaken,
@@ -59,6 +51,7 @@ writer_faults! {
     DueDateNotTested,
     CentsNotTested,
     EquationNotTested,
+    WithdrawnBoletosNotTested,
     // The lines and places that refusals name.
     LimitWithoutPlace,
     SegmentAtTheType,
@@ -116,11 +109,12 @@ writer_faults! {
     WrittenFromTheStart,
     ClearedBehindTheRecords,
     DirectionAlwaysRemittance,
-    TotalsOfTheLastBatch,
     TotalsWithoutTheTrailer,
     SumsIn32Bits,
     ZCountedAsPayment,
-    MovementNineNotSummed,
+    SumOfLiveOnly,
+    SumOfWithdrawnOnly,
+    LiveRecordsCounted,
     NominalSummed,
     // Trust in bytes of the output.
     BankReadBack,
@@ -142,21 +136,13 @@ writer_faults! {
     CentsCountedAtRefusal,
 }
 
-const BEFORE_ALL_NAMES: &str = "writer";
-
 impl WriterFault {
-    /// Words in small letters with hyphens between them, as of other faults.
     pub fn name(self) -> String {
-        let mut name = BEFORE_ALL_NAMES.to_string();
-        let mut before = 'A';
-        for letter in format!("{self:?}").chars() {
-            let begins_number = letter.is_ascii_digit() && !before.is_ascii_digit();
-            if letter.is_ascii_uppercase() || begins_number {
-                name.push('-');
-            }
-            name.push(letter.to_ascii_lowercase());
-            before = letter;
-        }
-        name
+        of_the_writer(hyphenated(self))
     }
+}
+
+/// Reader and writer can make some mistakes alike.
+pub fn of_the_writer(name: String) -> String {
+    format!("writer-{name}")
 }

@@ -1,5 +1,6 @@
 //! Mistakes in what the writer fills in, and in what it takes from the caller.
 
+use super::line_rules::RECORDS_OF_A_PAYMENT;
 use super::writer_faults::WriterFault;
 use super::Sown;
 use crate::paper::file_state::State;
@@ -12,7 +13,6 @@ use crate::paper::records::{first_too_wide, Records, Values};
 use crate::paper::writer_fill::{filled_part, own_number, Filling, Unfilled, BOTH_ENDS};
 use crate::paper::Paper;
 
-const RECORDS_OF_A_PAYMENT: u64 = 2;
 /// Narrower fields hold no number of more than 32 bits.
 const FIRST_WIDTH_OVER_32_BITS: usize = 10;
 
@@ -56,7 +56,8 @@ fn mistaken_number(fault: WriterFault, unfilled: Unfilled, part: Part) -> Option
         (RecordKind::BatchTrailer, BATCH_SUM) => sum(fault, state),
         (RecordKind::BatchTrailer, BATCH_RECORDS) => records_of_batch(fault, state),
         (RecordKind::FileTrailer, FILE_BATCHES) => {
-            (fault == WriterFault::FileTrailerCountsPayments).then_some(state.payments)
+            let payments = state.totals.payments();
+            (fault == WriterFault::FileTrailerCountsPayments).then_some(payments)
         }
         (RecordKind::FileTrailer, FILE_RECORDS) => records_of_file(fault, state),
         _ => None,
@@ -85,7 +86,7 @@ fn details_before(fault: WriterFault, state: &State) -> Option<u64> {
         WriterFault::DetailsGoOnAcrossBatches => {
             Some(state.accepted_lines - BOTH_ENDS * state.batches)
         }
-        WriterFault::ZNotNumbered => Some(RECORDS_OF_A_PAYMENT * batch.payments),
+        WriterFault::ZNotNumbered => Some(RECORDS_OF_A_PAYMENT * batch.totals.payments()),
         _ => None,
     }
 }
@@ -93,10 +94,16 @@ fn details_before(fault: WriterFault, state: &State) -> Option<u64> {
 fn records_of_batch(fault: WriterFault, state: &State) -> Option<u64> {
     let batch = state.batch()?;
     match fault {
-        WriterFault::TrailerCountsPayments => Some(batch.payments),
+        WriterFault::TrailerCountsPayments => Some(batch.totals.payments()),
         WriterFault::TrailerCountsDetails => Some(batch.details),
         WriterFault::TrailerCountsTheFile => Some(state.accepted_lines + 1),
-        WriterFault::ZNotCounted => Some(RECORDS_OF_A_PAYMENT * batch.payments + BOTH_ENDS),
+        WriterFault::ZNotCounted => {
+            Some(RECORDS_OF_A_PAYMENT * batch.totals.payments() + BOTH_ENDS)
+        }
+        WriterFault::LiveRecordsCounted => {
+            let left_out = RECORDS_OF_A_PAYMENT * batch.totals.withdrawn.payments;
+            Some(batch.details + BOTH_ENDS - left_out)
+        }
         _ => None,
     }
 }
@@ -105,7 +112,7 @@ fn records_of_file(fault: WriterFault, state: &State) -> Option<u64> {
     match fault {
         WriterFault::FileTrailerNotCounted => Some(state.accepted_lines),
         WriterFault::ZNotCountedInTheFile => {
-            let details = RECORDS_OF_A_PAYMENT * state.payments;
+            let details = RECORDS_OF_A_PAYMENT * state.totals.payments();
             Some(details + BOTH_ENDS * (state.batches + 1))
         }
         _ => None,
@@ -113,10 +120,14 @@ fn records_of_file(fault: WriterFault, state: &State) -> Option<u64> {
 }
 
 fn sum(fault: WriterFault, state: &State) -> Option<u64> {
-    let cents = state.batch().map_or(0, |batch| batch.cents) as u64;
+    let totals = state.batch()?.totals;
+    let cents = totals.cents() as u64;
     match fault {
         WriterFault::SumLeftOut => Some(0),
-        WriterFault::SumOfTheFile => Some(cents + state.cents as u64),
+        WriterFault::SumOfTheFile => Some(cents + state.totals.cents() as u64),
+        WriterFault::SumOfLiveOnly => Some(totals.live.cents as u64),
+        WriterFault::SumOfWithdrawnOnly => Some(totals.withdrawn.cents as u64),
+        WriterFault::SumsIn32Bits => Some(u64::from(cents as u32)),
         _ => None,
     }
 }

@@ -4,19 +4,20 @@
 use super::writer_faults::WriterFault;
 use crate::paper::boleto_rules::BoletoRule;
 use crate::paper::layout_table::Entry;
+use crate::paper::totals::Movement;
 use crate::paper::writer_order::Row;
 use crate::paper::writer_rules::Attempt;
 
 /// The rows of the paper, in the order that the fault gives them.
 pub fn disturb(rows: &mut Vec<Row>, fault: WriterFault, attempt: &Attempt) {
-    rows.retain(|row| !is_left_out(*row, fault));
+    rows.retain(|row| !is_left_out(*row, fault, attempt));
     rows.sort_by_key(|row| Rank::of(*row).with(fault, *row));
     if fault == WriterFault::WideNumbersFirst {
         move_wide_numbers(rows, attempt);
     }
 }
 
-fn is_left_out(row: Row, fault: WriterFault) -> bool {
+fn is_left_out(row: Row, fault: WriterFault, attempt: &Attempt) -> bool {
     match (fault, row) {
         (WriterFault::FirstKindNotTested, Row::Segment(0))
         | (WriterFault::SecondKindNotTested, Row::Segment(1))
@@ -25,6 +26,9 @@ fn is_left_out(row: Row, fault: WriterFault) -> bool {
         | (WriterFault::DueDateNotTested, Row::Boleto(_, BoletoRule::DueDate))
         | (WriterFault::CentsNotTested, Row::Boleto(_, BoletoRule::Cents))
         | (WriterFault::EquationNotTested, Row::Boleto(_, BoletoRule::Equation)) => true,
+        (WriterFault::WithdrawnBoletosNotTested, Row::Boleto(at, _)) => {
+            Movement::of(&attempt.drafts[at].bytes) == Movement::Withdrawn
+        }
         // A record whose kind is right is not looked into.
         (_, Row::Segment(_)) => false,
         (WriterFault::SecondRecordNotTested, _) => row.record() == Some(1),

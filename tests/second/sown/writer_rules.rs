@@ -1,6 +1,7 @@
 //! Mistakes about one call to the writer: its turn, its records, its limits and
 //! the room that it asks for.
 
+use super::limits;
 use super::writer_faults::WriterFault;
 use super::writer_order;
 use super::Sown;
@@ -10,6 +11,7 @@ use crate::paper::lines::{LINE_BYTES, LINE_END, MOST_BATCHES};
 use crate::paper::numbers::NON_DIGIT;
 use crate::paper::record_kinds::{Direction, RecordKind};
 use crate::paper::record_rules::{RecordRules, Refusal};
+use crate::paper::totals::Totals;
 use crate::paper::writer_calls::CallKind;
 use crate::paper::writer_order::Row;
 use crate::paper::writer_record_rules::{demanded_kind, GivenRecordRules};
@@ -100,12 +102,15 @@ impl WriterRules for Sown {
                     true
                 }
                 (WriterFault::EmptyLaterBatchClosed, CallKind::CloseBatch, Stage::InBatch(_)) => {
-                    state.payments > 0
+                    state.totals.payments() > 0
                 }
                 _ => false,
             }
         });
-        taken || Paper.is_in_turn(attempt)
+        let kept_open = self.writer_fault() == Some(WriterFault::BatchWithoutLivePaymentKeptOpen)
+            && attempt.call.kind == CallKind::CloseBatch
+            && state.batch().map(|batch| batch.totals.live.payments) == Some(0);
+        (taken || Paper.is_in_turn(attempt)) && !kept_open
     }
 
     fn most_batches_written(&self) -> u64 {
@@ -113,6 +118,20 @@ impl WriterRules for Sown {
             Some(WriterFault::BatchTooManyTaken) => MOST_BATCHES + 1,
             Some(WriterFault::LastBatchRefused) => MOST_BATCHES - 1,
             _ => Paper.most_batches_written(),
+        }
+    }
+
+    fn payments_written(&self, batch: &Batch) -> u64 {
+        match self.writer_limit_fault() {
+            Some(fault) => limits::payments(fault, batch.totals),
+            None => Paper.payments_written(batch),
+        }
+    }
+
+    fn total_written(&self, totals: Totals) -> u128 {
+        match self.writer_limit_fault() {
+            Some(fault) => limits::cents(fault, totals),
+            None => Paper.total_written(totals),
         }
     }
 

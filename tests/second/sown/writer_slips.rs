@@ -117,9 +117,11 @@ impl SownWriter {
                 batch.details += records as u64;
             }
             (Some(WriterFault::PaymentCountedAtRefusal), Stage::InBatch(batch)) => {
-                batch.payments += 1;
+                batch.totals.live.payments += 1;
             }
-            (Some(WriterFault::CentsCountedAtRefusal), Stage::InBatch(batch)) => batch.cents += 1,
+            (Some(WriterFault::CentsCountedAtRefusal), Stage::InBatch(batch)) => {
+                batch.totals.live.cents += 1;
+            }
             _ => {}
         }
     }

@@ -2,6 +2,8 @@
 use mathlib.Core.Path.{_≡_, refl}
 use mathlib.Core.Bool.{Bool, true, false}
 use Prim.Native.Nat.{ℕ, _+_, _^_, _<_}
+use native.Mathlib.Nat.{add-zero}
+use native.Mathlib.Numerals.{add-one}
 use native.Mathlib.Omega.{arith}
 use borrow.Author.Tests.{ltb-true, ltb-false, lt-leb}
 use lib.Dec.{ltb, leb}
@@ -20,3 +22,10 @@ capped-within n more limit h = by-test (ltb n (2 ^ 64)) refl
     by-test false e =
         let g = ltb-false n (2 ^ 64) e in
         rw (lt-leb (n + more) limit (omega (arith, g)), lt-leb (capped n + more) limit (omega (arith, g)))
+
+-- so where nothing more is asked for
+pub capped-most : (n limit : ℕ) → limit < largest → leb (capped n) limit ≡ leb n limit
+capped-most n limit h = rw (add-zero n, add-zero (capped n)) at (capped-within n 0 limit h)
+
+pub capped-below : (n limit : ℕ) → limit < largest → ltb (capped n) limit ≡ ltb n limit
+capped-below n limit h = rw (add-one n, add-one (capped n)) at (capped-within n 1 limit h)

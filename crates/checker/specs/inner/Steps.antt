@@ -22,6 +22,7 @@ use Rattle.checker.specs.declared.order.Reading.{Reading}
 use Rattle.checker.specs.declared.order.Reading.the-variants.{Nothing}
 use Rattle.layout.specs.declared.shapes.Phase.{Phase}
 use Rattle.layout.specs.declared.shapes.Phase.the-variants.{Start, Headed, Opened, Within, Paid, BehindZ, Closed, Ended}
+use Rattle.checker.specs.declared.totals.Tally.{Tally}
 use Rattle.checker.specs.declared.totals.Totals.{Totals}
 use Rattle.checker.specs.declared.Checker.{Checker}
 
@@ -74,6 +75,10 @@ pub record Bounded (s : Checker) : Type 0 where
   pub cents-current : centSum (s .current) ≤ batchCentsMost
 
 -- the sums fit 64 bits
+pub record FitTally (a b : Tally) : Type 0 where
+  pub payments : a .payments + b .payments < 2 ^ 64
+  pub cents : a .cents .0 + b .cents .0 < 2 ^ 64
+
 pub record FitSum (a b : Totals) : Type 0 where
   pub batches : batchCount a + batchCount b < 2 ^ 64
   pub records : recordCount a + recordCount b < 2 ^ 64

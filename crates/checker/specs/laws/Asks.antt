@@ -3,18 +3,17 @@
 use mathlib.Core.Path.{_≡_, refl, sym, ap, subst, _∙_}
 use mathlib.Core.Bool.{Bool, true, false, cond, _&&_}
 use mathlib.Core.List.{List, [], _∷_, _++_}
-use Prim.Native.Nat.{ℕ, zero, suc, _+_, _-_, _≤_, _<_}
-use native.Mathlib.Nat.{not-suc-le-zero, le-of-suc-le-suc}
+use Prim.Native.Nat.{ℕ, suc, _+_, _-_, _≤_}
 use native.Mathlib.Omega.{arith}
 use borrow.Author.Tests.{eqb-true, eq-eqb, leb-true, ltb-true, le-leb, lt-ltb}
 use lib.Dec.{leb, ltb, eqb, lit≤}
-use lib.ListN.{length, getD, take, drop}
+use lib.ListN.{length}
 use Rattle.answer.specs.Limits.{fileCents}
 use Rattle.answer.specs.Rules.{Rule, rule, firstBroken, AllKept}
 use Rattle.answer.specs.laws.Order.{never, none-kept, more-kept, kept-accepted, gone-on, kept-front, kept-behind, kept-join}
 use Rattle.digits.specs.Digits.{allDigits, digitByte, place, places}
 use Rattle.digits.specs.Numbers.{numberOf}
-use Rattle.digits.specs.laws.Strings.{all-leading, part-getD}
+use Rattle.digits.specs.laws.Strings.{one-place, all-leading, part-getD}
 use Rattle.digits.specs.laws.Numerals.{given}
 use Rattle.digits.specs.declared.spelling.Number.{Number}
 use Rattle.digits.specs.declared.spelling.Number.the-variants.{Is, Not}
@@ -82,12 +81,6 @@ unfolding AllKept rulesOf fieldsOf
 bank-digits d rec k = k .0
 
 -- ---- the type and the letter
-
--- the byte at one place
-one-place : (i : ℕ) (xs : List ℕ) → i < length xs → take 1 (drop i xs) ≡ getD xs i 0 ∷ []
-one-place i [] h = absurd (not-suc-le-zero h)
-one-place zero (x ∷ xs) h = refl
-one-place (suc i) (x ∷ xs) h = one-place i xs (le-of-suc-le-suc h)
 
 byte-at : (p : ℕ) {b : ℕ} (rec : List ℕ) → 1 ≤ p → same (b ∷ []) (places p p rec) ≡ true → place p rec ≡ b
 byte-at p {b} rec low k =

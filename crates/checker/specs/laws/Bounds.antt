@@ -7,6 +7,8 @@ use native.Mathlib.Omega.{arith}
 use borrow.Author.Tests.{leb-true, ltb-true, le-leb, lt-ltb}
 use lib.Dec.{leb, ltb}
 use lib.ListN.{length, length-take}
+use Rattle.answer.specs.Sums.{capped}
+use Rattle.answer.specs.laws.Sums.{fits}
 use Rattle.digits.specs.laws.Numerals.{value-lt}
 use Rattle.layout.specs.Field.{Field, part}
 use Rattle.layout.specs.Records.{shapeOf, amountField, creditAmount, boletoAmount}
@@ -16,9 +18,10 @@ use Rattle.layout.specs.declared.shapes.LineType.{LineType}
 use Rattle.layout.specs.declared.shapes.LineType.the-variants.{FileFirst, BatchFirst, Detail, BatchLast, FileLast}
 use Rattle.layout.specs.declared.shapes.Amount.{Amount}
 use Rattle.layout.specs.declared.shapes.Amount.the-variants.{NoAmount, AmountOfA, AmountOfJ}
-use Rattle.checker.specs.Totals.{add, opens, centsIn, counts, amountDigits, batchCount, centSum, paymentCount, recordCount}
+use Rattle.checker.specs.Totals.{add, opens, centsIn, counts, paymentsOf, amountDigits, batchCount, centSum, paymentCount, recordCount}
 use Rattle.checker.specs.Machine.{sound}
 use Rattle.checker.specs.inner.Steps.{Bounded, Room}
+use Rattle.checker.specs.laws.Sums.{together}
 use Rattle.checker.specs.declared.Checker.{Checker}
 
 -- `sound`, read as facts
@@ -61,13 +64,25 @@ bounded-sound b =
       le-leb _ _ (b .cents-current),
     )
 
+-- so what is read of it is not capped
+module _ {s : Checker} (b : Bounded s) where
+  pub payments-fit : capped (paymentCount (s .current)) ≡ paymentCount (s .current)
+  payments-fit = fits _ (omega arith)
+
+  pub cents-fit : capped (centSum (s .current)) ≡ centSum (s .current)
+  cents-fit = fits _ (omega arith)
+
+  pub closed-cents-fit : capped (centSum (s .closed)) ≡ centSum (s .closed)
+  closed-cents-fit = fits _ (omega arith)
+
 -- ---- what a line counts
 
 pub record Small (r : Record) (rec : List ℕ) : Type 0 where
   pub batches : counts r rec .batches ≤ 1
   pub records : counts r rec .records .0 ≡ 1
-  pub payments : counts r rec .payments ≤ 1
-  pub cents : counts r rec .cents .0 ≤ counts r rec .payments * 10 ^ amountDigits
+  pub payments : paymentCount (counts r rec) ≡ paymentsOf r
+  pub one : paymentsOf r ≤ 1
+  pub cents : centSum (counts r rec) ≤ paymentsOf r * 10 ^ amountDigits
 
 few-opens : (t : LineType) → opens t ≤ 1
 few-opens FileFirst = omega arith
@@ -89,7 +104,8 @@ one-amount AmountOfJ rec = omega (arith, value-lt amountDigits (part boletoAmoun
 pub small : (r : Record) (rec : List ℕ) → Small r rec
 small r rec =
     let a = one-amount (shapeOf r .amount) rec in
-    record { batches = few-opens (shapeOf r .line); records = refl; payments = a .one; cents = a .below }
+    let t = together r rec in
+    record { batches = few-opens (shapeOf r .line); records = refl; payments = t .payments-are; one = a .one; cents = rw (t .cents-are) (a .below) }
 
 -- ---- no sum of a line leaves 64 bits
 

@@ -7,7 +7,7 @@ use native.Mathlib.Nat.{pow-succ', pow-suc, pow-le-pow-right, one-le-pow, add-mu
 use native.Mathlib.Decide.{decLt}
 use native.Mathlib.Numerals.{add-one}
 use native.Mathlib.Omega.{arith}
-use borrow.Author.Tests.{lt-ltb, le-ltb, le-leb, leb-true, eq-eqb, eqb-true, ne-eqb}
+use borrow.Author.Tests.{lt-ltb, le-ltb, le-leb, leb-true, eq-eqb, eqb-true, eqb-false, ne-eqb}
 use lib.Arith.{digits-lt, digits-div, digits-mod}
 use lib.Dec.{leb, eqb}
 use lib.ListN.{length, length-append, length-replicate, getD, drop, replicate}
@@ -110,6 +110,18 @@ given bs n e = go (eqb (leading bs) (length bs)) (leb (length bs) mostDigits) re
 
 pub given-lt : (bs : List ℕ) (n : ℕ) → numberOf bs ≡ Is n → n < 10 ^ length bs
 given-lt bs n e = rw (given bs n e .is) (number-lt bs)
+
+-- one byte gives its digit: a test of the number is one of the byte
+pub digit-told : (b n k : ℕ) → numberOf (b ∷ []) ≡ Is n → eqb b (digitByte k) ≡ eqb n k
+unfolding weighed
+digit-told b n k e = go (eqb n k) refl
+  where
+    is : b ≡ digitByte n
+    is = let g = given (b ∷ []) n e in let d = head (g .digits) in omega (arith, g .is, digit-value b d)
+
+    go : (t : Bool) → eqb n k ≡ t → eqb b (digitByte k) ≡ t
+    go true q = eq-eqb b (digitByte k) (is ∙ ap digitByte (eqb-true n k q))
+    go false q = ne-eqb b (digitByte k) (λ z. eqb-false n k q (omega (arith, is)))
 
 -- what is printed is parsed to the same number
 pub printed-parsed : (w n : ℕ) → n < 10 ^ w → w ≤ mostDigits → numberOf (numeral w n) ≡ Is n

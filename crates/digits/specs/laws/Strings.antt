@@ -12,6 +12,14 @@ use borrow.Author.Tests.{le-leb, ne-eqb}
 use Rattle.digits.specs.Digits.{digit?, digitOf, leading, allDigits}
 use Rattle.digits.specs.laws.Tests.{both}
 
+-- ---- one byte
+
+-- the byte at one place
+pub one-place : (i : ℕ) (xs : List ℕ) → i < length xs → take 1 (drop i xs) ≡ getD xs i 0 ∷ []
+one-place i [] h = absurd (not-suc-le-zero h)
+one-place zero (x ∷ xs) h = refl
+one-place (suc i) (x ∷ xs) h = one-place i xs (le-of-suc-le-suc h)
+
 -- ---- one digit
 
 -- a byte is a digit; every byte of a string is one

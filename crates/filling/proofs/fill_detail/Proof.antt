@@ -6,7 +6,6 @@ use Rattle.fields.specs.laws.Named.{by-name}
 use Rattle.filling.specs.Filling.{numberIndex, filledInBatch}
 use Rattle.filling.proofs.fill_detail.Statement.{statement}
 use Rattle.filling.proofs.fill_detail.Tie as tie
-use Rattle.checker.specs.Totals.{recordCount}
 
 returns : tie.Need-returns
 returns c =

@@ -15,7 +15,6 @@ use Rattle.checker.specs.Line.{trailerBatch}
 use Rattle.filling.specs.Filling.{fileBatchesIndex, fileRecordsIndex, filledLine}
 use Rattle.filling.proofs.fill_file_trailer.Statement.{statement}
 use Rattle.filling.proofs.fill_file_trailer.Tie as tie
-use Rattle.checker.specs.Totals.{batchCount, recordCount}
 
 returns : tie.Need-returns
 unfolding indexOf before fieldsOf

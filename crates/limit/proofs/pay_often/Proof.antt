@@ -7,10 +7,10 @@ use Rattle.limit.proofs.pay_often.Statement.{statement}
 use Rattle.limit.proofs.pay_often.Tie as tie
 
 abbrev Inv-loop : tie.InvT-loop
-Inv-loop times cents out₀ state₀ paid₀ out state paid = length out ≡ length out₀
+Inv-loop times movement cents out₀ state₀ paid₀ out state paid = length out ≡ length out₀
 
 abbrev μ-loop : tie.MeasureT-loop
-μ-loop times cents out₀ state₀ paid₀ out state paid = times - paid
+μ-loop times movement cents out₀ state₀ paid₀ out state paid = times - paid
 
 pub pay-often-spec : {M : Type 1} → statement M
 pay-often-spec =

@@ -1,9 +1,10 @@
--- Files that are accepted, computed: the paper's own of one credit of 100.00, and a return of both kinds of batch, with Z. Assumes nothing.
+-- Files that are accepted, computed: the paper's own of one credit of 100.00, a return of both kinds of batch, with Z, and that
+-- return with payments withdrawn. Assumes nothing.
 use mathlib.Core.Path.{_≡_, refl}
 use mathlib.Core.List.{List, _++_}
 use Prim.Native.Nat.{ℕ}
 use Rattle.answer.specs.Rules.{firstBroken}
-use Rattle.digits.specs.Digits.{leading, weighed}
+use Rattle.digits.specs.Digits.{digitByte, leading, weighed}
 use Rattle.digits.specs.Numbers.{numberOf}
 use Rattle.digits.specs.Checks.{counts, lift, checkDigit}
 use Rattle.calendar.specs.Calendar.{exists, dateFits, timeFits}
@@ -11,13 +12,14 @@ use Rattle.calendar.specs.Due.{daysOfYears, dayNumber, dueDays, folded, factorO
 use Rattle.layout.specs.Kinds.{same}
 use Rattle.layout.specs.Pairs.{batchOf}
 use Rattle.layout.specs.Record.{rulesOf, clean}
-use Rattle.layout.specs.Table.{fieldsOf}
-use Rattle.checker.specs.Totals.{totals, add}
+use Rattle.layout.specs.Table.{fieldsOf, movementField}
+use Rattle.checker.specs.Totals.{tally, noPayments, live, withdrawn, totals, add, withdrawal}
 use Rattle.checker.specs.Line.{lineFrom, within, boletoRules, rulesOfType, rulesAs, typeRules, lineRules, rulesOfLine}
 use Rattle.checker.specs.Machine.{sound, stepOf}
 use Rattle.files.specs.File.{cut, steps, endOf, finish, checkFile}
 use Rattle.files.specs.declared.Outcome.the-variants.{Accepted}
 use Rattle.promises.specs.Examples.{bytes}
+use Rattle.promises.specs.Guarded.{changed}
 
 abbrev pub creditFile : List ℕ
 creditFile =
@@ -28,7 +30,7 @@ creditFile =
     ++ lineFrom (bytes "08500015         000004000000000000010000000000000000000000000000                                                                                                                                                                               ")
     ++ lineFrom (bytes "08599999         000001000006000000                                                                                                                                                                                                             ")
 
-pub credit-file : checkFile creditFile ≡ Accepted (totals 1 6 1 10000)
+pub credit-file : checkFile creditFile ≡ Accepted (totals 1 6 (live (tally 1 10000)) (withdrawn noPayments))
 unfolding firstBroken leading weighed numberOf exists dateFits timeFits same batchOf rulesOf clean fieldsOf cut steps endOf finish within rulesOfType rulesAs typeRules lineRules rulesOfLine sound stepOf add
 credit-file = refl
 
@@ -51,6 +53,14 @@ returnFile =
     ++ lineFrom (bytes "08500025         000007000000000000071160000000000000000000000000                                                                                                                                                                               ")
     ++ lineFrom (bytes "08599999         000002000016000000                                                                                                                                                                                                             ")
 
-pub return-file : checkFile returnFile ≡ Accepted (totals 2 16 4 476150)
+pub return-file : checkFile returnFile ≡ Accepted (totals 2 16 (live (tally 4 476150)) (withdrawn noPayments))
 unfolding firstBroken leading weighed counts lift checkDigit numberOf exists dateFits timeFits daysOfYears dayNumber dueDays folded factorOf same batchOf rulesOf clean fieldsOf cut steps endOf finish within boletoRules rulesOfType rulesAs typeRules lineRules rulesOfLine sound stepOf add
 return-file = refl
+
+-- the same file with its second credit and its second boleto withdrawn (lines counted from 0): the trailers stay as they are
+abbrev pub withdrawnFile : List ℕ
+withdrawnFile = changed (changed returnFile 5 (movementField .from) (digitByte withdrawal)) 11 (movementField .from) (digitByte withdrawal)
+
+pub withdrawn-file : checkFile withdrawnFile ≡ Accepted (totals 2 16 (live (tally 2 364725)) (withdrawn (tally 2 111425)))
+unfolding firstBroken leading weighed counts lift checkDigit numberOf exists dateFits timeFits daysOfYears dayNumber dueDays folded factorOf same batchOf rulesOf clean fieldsOf cut steps endOf finish within boletoRules rulesOfType rulesAs typeRules lineRules rulesOfLine sound stepOf add
+withdrawn-file = refl

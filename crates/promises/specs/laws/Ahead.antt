@@ -13,7 +13,7 @@ use Rattle.layout.specs.declared.Record.{Record}
 use Rattle.layout.specs.declared.pairs.Batch.{Batch}
 use Rattle.checker.specs.Order.{payment, ended}
 use Rattle.layout.specs.Records.{after}
-use Rattle.checker.specs.Totals.{add}
+use Rattle.checker.specs.Totals.{add, centSum}
 use Rattle.checker.specs.Line.{recordIn}
 use Rattle.checker.specs.Machine.{next}
 use Rattle.checker.specs.laws.Sums.{next-counts}
@@ -24,7 +24,6 @@ use Rattle.checker.specs.laws.Kept.{KeptAt}
 use Rattle.checker.specs.laws.Reached.{reached-kept}
 use Rattle.layout.specs.declared.shapes.Phase.{Phase}
 use Rattle.layout.specs.declared.shapes.Phase.the-variants.{Start, Headed, Opened, Within, Paid, BehindZ, Closed, Ended}
-use Rattle.checker.specs.declared.totals.Totals.{Totals}
 use Rattle.checker.specs.declared.Checker.{Checker}
 use Rattle.writer.specs.Refusals.{centsSoFar, leastDetails, trailers}
 use Rattle.writer.specs.laws.KindGiven.{least-named}
@@ -48,7 +47,7 @@ unfolding add
 sum-below [] {s} e = ended-cents (s .phase) (at-last e) (reached-kept (e .reached))
 sum-below (l ∷ ls) {s} e =
     let (r, g) = goes e in
-    omega (arith, sum-below ls (g .rest), ap (λ (t : Totals). t .cents .0) (next-counts r s (recordIn l)))
+    omega (arith, sum-below ls (g .rest), ap centSum (next-counts r s (recordIn l)))
 
 -- ---- the lines that close the file follow
 

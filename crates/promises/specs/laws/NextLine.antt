@@ -31,6 +31,7 @@ use Rattle.promises.specs.Grammar.{RightLine}
 use Rattle.promises.specs.Guarded.{In}
 use Rattle.checker.specs.laws.Edges.{goes-on, pays-behind-z, next-in, Follows, first-batch, pays, adds-z, closes-paid, closes-behind-z, stands-moves}
 use Rattle.checker.specs.laws.Payments.{Stands, phaseBehind, row, stands-in, one-stands}
+use Rattle.checker.specs.laws.Sums.{together}
 use Rattle.checker.specs.laws.Details.{AllRead, Open, at-within, at-paid, at-behind-z, detail-of}
 use Rattle.checker.specs.laws.Asks.{letter-at}
 use Rattle.promises.specs.laws.Facts.{Fits}
@@ -170,5 +171,5 @@ module _ {p : ℕ} {s : Checker} {ls : List (List ℕ)} (l l′ : List ℕ) (d :
       let a = right-at (g .fitting .right) 19 (lit≤ tt) .0 in
       let a′ = right-at (g′ .fitting .right) 19 (lit≤ tt) .0 in
       not-twins ls
-      (record { still = at-within; phases = refl; directions = refl; batches = refl; cents = λ e. not-worth d creditAmount (omega arith) a a′ (omega arith) h })
+      (record { still = at-within; phases = refl; directions = refl; batches = refl; cents = λ e. not-worth d creditAmount (omega arith) a a′ (omega (arith, together SegmentA (recordIn l), together SegmentA (recordIn l′))) h })
       (g .rest) (g′ .rest)

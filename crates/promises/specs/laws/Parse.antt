@@ -18,7 +18,7 @@ use Rattle.layout.specs.declared.Record.{Record}
 use Rattle.layout.specs.declared.Record.the-variants.{FileHeader, BatchHeader, BatchTrailer, FileTrailer}
 use Rattle.layout.specs.Records.{after}
 use Rattle.checker.specs.Order.{ended}
-use Rattle.checker.specs.Totals.{totals, none, add, batchesOf, paymentsOf, centsOf, counts, batchCount, centSum, recordCount}
+use Rattle.checker.specs.Totals.{bare, none, add, paymentsOf, centsOf, counts, batchCount, paymentCount, centSum, recordCount}
 use Rattle.checker.specs.Line.{ordinal, mostBatches, mostPayments, trailerBatch, recordIn}
 use Rattle.checker.specs.Machine.{state, start, directionOf, next}
 use Rattle.checker.specs.inner.Steps.{Bounded}
@@ -31,11 +31,12 @@ use Rattle.checker.specs.laws.Kept.{kept-bounded}
 use Rattle.checker.specs.laws.Reached.{reached-kept}
 use Rattle.files.specs.laws.Verdict.{through-reached}
 use Rattle.checker.specs.laws.Sums.{Same, same-totals}
-use Rattle.promises.specs.Grammar.{Reads, Numbered, Details, no-details, detail, RightBatch, Batches, no-batches, batch, RightFile}
+use Rattle.promises.specs.Grammar.{Reads, Numbered, Details, no-details, detail, liveAmong, withdrawnAmong, RightBatch, Batches, no-batches, batch, RightFile}
 use Rattle.checker.specs.laws.Edges.{first-payment, goes-on, pays-behind, pays-behind-z, Follows, heads, first-batch, pays, adds-z, closes-paid, closes-behind-z, next-batch, ends, follows-by}
 use Rattle.checker.specs.laws.Payments.{Stands, row}
 use Rattle.checker.specs.laws.Details.{inDetail, AllRead, Open, at-within, at-paid, at-behind-z, detail-of}
 use Rattle.promises.specs.laws.Facts.{Fits, taken, header-bank, either-direction}
+use Rattle.promises.specs.laws.Together.{among, details-together}
 use Rattle.promises.specs.laws.Shape.{batches-long, Tail, stops-paid, stops-behind-z, steps, tail-payments}
 
 -- ---- what is left of a file behind a state
@@ -50,7 +51,7 @@ record Later (d : Direction) (bank : ℕ) (closed : Totals) (ls : List (List ℕ
   trailer-right : Numbered FileTrailer d bank trailerBatch trailer
   batches-counted : Reads fileBatches (t .batches) trailer
   records-counted : Reads fileRecords (t .records .0) trailer
-  are : Same t (add (add closed inside) (totals 0 1 0 0))
+  are : Same t (add (add closed inside) (bare 0 1))
 
 -- in a batch, at a phase: its other details, its trailer, where its lines count the sum, and what is left behind it
 record Inside (p : Phase) (s : Checker) (ls : List (List ℕ)) (t : Totals) : Type 0 where
@@ -66,14 +67,14 @@ record Inside (p : Phase) (s : Checker) (ls : List (List ℕ)) (t : Totals) : Ty
   details-right : Details (s .dir) (s .bank) (ordinal s) (recordCount (s .current)) records details cents
   trailer-right : Numbered BatchTrailer (s .dir) (s .bank) (ordinal s) trailer
   counted : Reads batchRecords (sum .records .0) trailer
-  summed : Reads batchSum (sum .cents .0) trailer
-  most : sum .payments ≤ mostPayments
-  are : Same sum (add (s .current) (totals 0 (length details + 1) payments cents))
+  summed : Reads batchSum (centSum sum) trailer
+  most : paymentCount sum ≤ mostPayments
+  are : Same sum (add (s .current) (among (length details + 1) records details))
   later : Later (s .dir) (s .bank) (add (s .closed) sum) rest t
 
 -- by phase; outside a batch no lines are counted as an open batch's
 abbrev Left : Phase → Checker → List (List ℕ) → Totals → Type 0
-Left Start s ls t = (t .batches ≤ mostBatches) × (t .cents .0 < fileCents) → Same (s .closed) none → Same (s .current) none → RightFile ls t
+Left Start s ls t = (t .batches ≤ mostBatches) × (centSum t < fileCents) → Same (s .closed) none → Same (s .current) none → RightFile ls t
 Left Headed s ls t = Same (s .current) none → (x : Later (s .dir) (s .bank) (s .closed) ls t) × (1 ≤ x .inside .batches)
 Left Opened s ls t = Inside Opened s ls t
 Left (Within n) s ls t = Inside (Within n) s ls t
@@ -107,7 +108,7 @@ module _ (s : Checker) (l : List ℕ) (ls : List (List ℕ)) (t : Totals) where
 
   -- a batch's trailer
   closed-by : {p : Phase} → Bounded s → Tail (s .dir) (s .batch) p 0 [] → Fits BatchTrailer s l → Behind BatchTrailer → Inside p s (l ∷ ls) t
-  unfolding add AllRead
+  unfolding add AllRead liveAmong withdrawnAmong
   closed-by h shape x on =
       record {
         details = [];
@@ -122,7 +123,7 @@ module _ (s : Checker) (l : List ℕ) (ls : List (List ℕ)) (t : Totals) where
         details-right = no-details;
         trailer-right = record { right = x .right; bank-is = x .numbers .0; batch-is = x .numbers .1 .0 };
         counted = x .numbers .1 .1 .0;
-        summed = rw (add-zero (centSum (s .current))) (x .numbers .1 .1 .1 .0);
+        summed = subst (λ n. Reads batchSum n l) (omega arith) (x .numbers .1 .1 .1 .0);
         most = omega arith;
         are = omega arith;
         later = on (omega arith);
@@ -131,12 +132,12 @@ module _ (s : Checker) (l : List ℕ) (ls : List (List ℕ)) (t : Totals) where
   -- the state behind a detail, part by part
   abbrev counting : Record → Checker
   counting r =
-      state (after r) (s .dir) (s .batch) (s .bank) (s .closed) (add (s .current) (totals (batchesOf r) 1 (paymentsOf r) (centsOf r (recordIn l))))
+      state (after r) (s .dir) (s .batch) (s .bank) (s .closed) (add (s .current) (counts r (recordIn l)))
 
   -- a detail
   detail-by : {p : Phase} {r : Record} → Follows (s .dir) (s .batch) p r → typeOf r ≡ digitByte 3 → Fits r s l → Inside (after r) (counting r) ls t
       → Inside p s (l ∷ ls) t
-  unfolding add AllRead
+  unfolding add AllRead liveAmong withdrawnAmong
   detail-by {p} {r} f type x y =
       let o = detail-of r type in
       let n : AllRead (inDetail s) (recordIn l) = rw (o .asks s) at (x .numbers) in
@@ -179,7 +180,8 @@ module _ (s : Checker) (l : List ℕ) (ls : List (List ℕ)) (t : Totals) where
   right-batch e x y =
       let long : y .sum .records .0 ≡ length (l ∷ (y .details ++ y .trailer ∷ [])) = omega (arith, length-append (y .details) (y .trailer ∷ [])) in
       let one : recordCount (s .current) + 1 ≡ 1 = omega arith in
-      let sum : y .sum .cents .0 ≡ y .cents = omega arith in
+      let all = details-together (y .shape) (y .details-right) in
+      let sum : centSum (y .sum) ≡ y .cents = omega arith in
       let paid = tail-payments (y .shape) in
       record {
         header = l;

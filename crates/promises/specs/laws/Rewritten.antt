@@ -26,12 +26,12 @@ use Rattle.layout.specs.declared.pairs.Batch.{Batch}
 use Rattle.fields.specs.Values.{fieldsIn, ofRecord}
 use Rattle.checker.specs.Order.{payment, ended}
 use Rattle.layout.specs.Records.{after}
-use Rattle.checker.specs.Totals.{add, centsOf, paymentCount}
+use Rattle.checker.specs.Totals.{add, centsOf, paymentCount, centSum}
 use Rattle.checker.specs.Line.{recordIn, lineFrom, mostPayments}
 use Rattle.checker.specs.Machine.{start, next, mostDetails}
 use Rattle.files.specs.File.{linesOf, checkFile}
 use Rattle.checker.specs.Calls.{at-start, Through, here, further}
-use Rattle.checker.specs.laws.Sums.{next-counts}
+use Rattle.checker.specs.laws.Sums.{together, next-counts}
 use Rattle.checker.specs.laws.Details.{detail-of}
 use Rattle.checker.specs.laws.Asks.{Body}
 use Rattle.checker.specs.laws.Edges.{first-payment, goes-on, pays-behind, pays-behind-z, Follows, heads, first-batch, pays, adds-z, closes-paid, closes-behind-z, next-batch, ends, Moved, stands-moves}
@@ -235,8 +235,8 @@ module _ {r : Record} {t : Checker} {l : List ℕ} {ls : List (List ℕ)} (f : S
   sum-of-first =
       let given-amount = amount-is {expected = r ∷ []} r (back r l) (is-right g (itself r)) in
       let amount = ap (centsOf r) (sym (same-bytes g)) ∙ given-amount in
-      let more = ap (λ (u : Totals). u .cents .0) (next-counts r t (recordIn l)) in
-      omega (arith, sum-below ls (g .rest))
+      let more = ap centSum (next-counts r t (recordIn l)) in
+      omega (arith, together r (recordIn l), sum-below ls (g .rest))
 
   part-begun : turns (t .phase) .payment ≡ true → Part t 1 (l ∷ []) ls (next r t (recordIn l))
   part-begun turn =

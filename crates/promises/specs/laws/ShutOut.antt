@@ -13,6 +13,7 @@ use Rattle.checker.specs.Line.{lineBytes}
 use Rattle.checker.specs.Calls.{left}
 use Rattle.checker.specs.Machine.{sound}
 use Rattle.files.specs.File.{cut, steps, endOf, finish, checkFile}
+use Rattle.checker.specs.Totals.{withdrawnPayments}
 use Rattle.checker.specs.declared.totals.Totals.{Totals}
 use Rattle.files.specs.declared.Outcome.{Outcome}
 use Rattle.files.specs.declared.Outcome.the-variants.{Accepted, Refused}
@@ -21,7 +22,7 @@ use Rattle.promises.specs.Guarded.{first-eight, lineAt, GuardedIn, chang
 use Rattle.promises.specs.Demands.{Demand2, Demand3}
 use Rattle.promises.specs.WrongOnes.{FirstBatchOnly}
 use Rattle.promises.specs.laws.Accepted.{accepted-exactly}
-use Rattle.promises.specs.laws.AcceptedFiles.{creditFile, credit-file, returnFile, return-file}
+use Rattle.promises.specs.laws.AcceptedFiles.{creditFile, credit-file, returnFile, return-file, withdrawnFile, withdrawn-file}
 use Rattle.promises.specs.laws.Change.{change-refused}
 use Rattle.promises.specs.laws.SecondBatch.{behindFirst, guarded-there, unseen}
 
@@ -39,6 +40,10 @@ refuses-all check all h = not-both (sym (h creditFile _ .1 (accepted-exactly cre
 -- one that reports totals that are not the file's: payments or cents made up
 pub invented : (check : List ℕ → Outcome) → Demand2 check → (file : List ℕ) (t u : Totals) → Meets file t → check file ≡ Accepted u → u ≢ t → ⊥
 invented check h file t u m e ne = ne (let z = sym e ∙ h file t .1 m in cc)
+
+-- one that reports no payment as withdrawn, whatever the file
+pub never-withdrawn : (check : List ℕ → Outcome) → ((file : List ℕ) (t : Totals) → check file ≡ Accepted t → withdrawnPayments t ≡ 0) → Demand2 check → ⊥
+never-withdrawn check none h = let z = none withdrawnFile _ (h withdrawnFile _ .1 (accepted-exactly withdrawnFile _ .0 withdrawn-file)) in absurd (omega arith)
 
 -- one that gives a file the same answer with another byte at a guarded place: that of another batch than the first, for one that looks at the first only
 pub overlooks-3 : (check : List ℕ → Outcome) → Demand3 check → (file : List ℕ) (t : Totals) (n p b : ℕ) → check file ≡ Accepted t → GuardedIn file n p

@@ -1,6 +1,6 @@
 -- The records of a payment, by what is expected at each position. Assumes nothing.
 use mathlib.Core.Path.{_≡_, refl, sym, ap}
-use mathlib.Core.Bool.{true, false, not, _&&_, _||_, and-false}
+use mathlib.Core.Bool.{Bool, true, false, not, _&&_, _||_, and-false}
 use mathlib.Core.List.{List, [], _∷_}
 use Prim.Native.Nat.{ℕ, zero, suc, _≤_, _<_}
 use native.Mathlib.Decide.{decLe}
@@ -18,15 +18,18 @@ use Rattle.layout.specs.declared.Record.the-variants.{SegmentZ}
 use Rattle.layout.specs.Field.{Field}
 use Rattle.layout.specs.laws.Records.{the-one, itself}
 use Rattle.layout.specs.declared.pairs.Batch.{Batch}
+use Rattle.layout.specs.Names.{indexOf}
+use Rattle.fields.specs.Values.{nth}
 use Rattle.fields.specs.declared.Fields.{Fields}
 use Rattle.checker.specs.Order.{payment, recordAt, readingOf}
 use Rattle.checker.specs.Line.{found}
 use Rattle.checker.specs.declared.order.Reading.the-variants.{Line, Nothing}
-use Rattle.checker.specs.Totals.{totals, batchesOf, paymentsOf}
+use Rattle.checker.specs.Totals.{tally, noPayments, live, withdrawn, totals, bare, only, batchesOf}
+use Rattle.checker.specs.declared.totals.Tally.{Tally}
 use Rattle.checker.specs.declared.totals.Totals.{Totals}
 use Rattle.checker.specs.laws.Payments.{Stands, row}
 use Rattle.checker.specs.laws.Details.{detail-of}
-use Rattle.writer.specs.Given.{givenIn, amountOf}
+use Rattle.writer.specs.Given.{givenIn, amountOf, withdrawsAs, onePayment}
 use Rattle.writer.specs.Refusals.{zIn, positions, expectedNow}
 use Rattle.writer.specs.inner.Steps.{expectedAt}
 
@@ -150,23 +153,33 @@ no-own d b n r e = go (decLe n (length rs)) (decLe 1 n)
 pub expected-last : (d : Direction) (b : Batch) → 1 ≤ length (payment b) → d ≡ Return → expectedAt (length (payment b)) d b SegmentZ ≡ true
 expected-last d b some e = rw (last-position d (payment b) some) (expected-z e)
 
--- ---- what they count, as they are given: the first counts the payment and its amount
+-- ---- what they count, as they are given: the first counts the payment and its amount, live or withdrawn
+
+-- a record that has an amount begins a payment
+abbrev tallyAs : Bool → Record → List Field → Fields → Tally
+tallyAs such r [] v = noPayments
+tallyAs such r (f ∷ fs) v = only such (tally 1 (nth (indexOf r f) v))
 
 abbrev pub countsAs : Record → Fields → Totals
-countsAs r v = totals (batchesOf r) 1 (paymentsOf r) (amountOf r v)
+countsAs r v =
+    totals (batchesOf r) 1 (live (tallyAs (not (withdrawsAs r v)) r (amountsOf r) v)) (withdrawn (tallyAs (withdrawsAs r v) r (amountsOf r) v))
 
--- what begins no payment has no amount
-none-given : (r : Record) (fs : List Field) (v : Fields) → length fs ≡ 0 → givenIn r fs v ≡ 0
-none-given r [] v e = refl
-none-given r (f ∷ fs) v e = absurd (omega arith)
+none-tallied : (such : Bool) (r : Record) (fs : List Field) (v : Fields) → length fs ≡ 0 → tallyAs such r fs v ≡ noPayments
+none-tallied such r [] v e = refl
+none-tallied such r (f ∷ fs) v e = absurd (omega arith)
 
-no-amount : (r : Record) (v : Fields) → paymentsOf r ≡ 0 → amountOf r v ≡ 0
-no-amount r v e = none-given r (amountsOf r) v e
+one-tallied : (such : Bool) (r : Record) (fs : List Field) (v : Fields) → length fs ≡ 1 → tallyAs such r fs v ≡ only such (tally 1 (givenIn r fs v))
+one-tallied such r [] v e = absurd (omega arith)
+one-tallied such r (f ∷ fs) v e = refl
 
-pub first-counts : {d : Direction} {b : Batch} {r : Record} → Expected d b 0 r → (v : Fields) → countsAs r v ≡ totals 0 1 1 (amountOf r v)
-first-counts {r = r} (its-own g) v = rw (detail-of r (row g .type) .opens, row g .begins)
+pub first-counts : {d : Direction} {b : Batch} {r : Record} → Expected d b 0 r → (v : Fields) → countsAs r v ≡ onePayment 1 (withdrawsAs r v) (amountOf r v)
+first-counts {r = r} (its-own g) v =
+    let one : (such : Bool) → tallyAs such r (amountsOf r) v ≡ only such (tally 1 (amountOf r v)) = λ such. one-tallied such r (amountsOf r) v (row g .begins) in
+    rw (detail-of r (row g .type) .opens, one (not (withdrawsAs r v)), one (withdrawsAs r v))
 first-counts (behind-last e some q z) v = absurd (omega arith)
 
-pub later-counts : {d : Direction} {b : Batch} {n : ℕ} {r : Record} → Expected d b (suc n) r → (v : Fields) → countsAs r v ≡ totals 0 1 0 0
-later-counts {r = r} (its-own g) v = rw (detail-of r (row g .type) .opens, row g .begins, no-amount r v (row g .begins))
+pub later-counts : {d : Direction} {b : Batch} {n : ℕ} {r : Record} → Expected d b (suc n) r → (v : Fields) → countsAs r v ≡ bare 0 1
+later-counts {r = r} (its-own g) v =
+    let none : (such : Bool) → tallyAs such r (amountsOf r) v ≡ noPayments = λ such. none-tallied such r (amountsOf r) v (row g .begins) in
+    rw (detail-of r (row g .type) .opens, none (not (withdrawsAs r v)), none (withdrawsAs r v))
 later-counts (behind-last e some q z) v = rw z

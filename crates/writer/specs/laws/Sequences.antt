@@ -1,5 +1,5 @@
 -- Calls one after the other: the reader takes every line that they write, and counts what was put in. Assumes nothing.
-use mathlib.Core.Path.{_≡_, refl, sym, _∙_}
+use mathlib.Core.Path.{_≡_, refl, sym, ap, _∙_}
 use mathlib.Core.Bool.{true}
 use mathlib.Core.List.{List}
 use Prim.Native.Nat.{ℕ, _<_, _≤_, _+_, _*_}
@@ -92,10 +92,15 @@ module _ (ls : List Lent) (h : WholeCalls ls) where
   pub put-in : counted (left newWriter ls .checker) ≡ putIn newWriter ls
   put-in = calls-count newWriter h ∙ simp none-add
 
+  -- the writer's close: its totals are what was put in
+  pub closed-totals : left newWriter ls .checker .phase ≡ Ended → left newWriter ls .checker .closed ≡ putIn newWriter ls
+  closed-totals e =
+      let m = left newWriter ls .checker in
+      sym (add-none (m .closed)) ∙ ap (add (m .closed)) (sym (ended-none (reached-kept checker-reached) e)) ∙ put-in
+
   -- a file that is closed is accepted, with the totals of what was put in
   pub file-accepted : left newWriter ls .checker .phase ≡ Ended → checkFile (fileOf ls) ≡ outcome.Accepted (putIn newWriter ls)
   file-accepted e =
       let m = left newWriter ls .checker in
       let lines = lines-are (fileOf ls) (written newWriter ls) .1 (through-lines file-through, refl) in
-      let all : putIn newWriter ls ≡ m .closed = sym put-in ∙ rw (ended-none (reached-kept checker-reached) e) (add-none (m .closed)) in
-      accepted-file (fileOf ls) (putIn newWriter ls) .1 (record { to = m; through = rw lines file-through; at-end = rw e; counted = all })
+      accepted-file (fileOf ls) (putIn newWriter ls) .1 (record { to = m; through = rw lines file-through; at-end = rw e; counted = sym (closed-totals e) })

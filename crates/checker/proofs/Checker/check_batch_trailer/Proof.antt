@@ -5,6 +5,7 @@ use native.Mathlib.Omega.{arith}
 use Rattle.answer.specs.laws.Order.{ahead, joined-three}
 use Rattle.answer.specs.laws.Sums.{fits}
 use Rattle.checker.specs.Line.{rulesOfType}
+use Rattle.checker.specs.laws.Bounds.{cents-fit, closed-cents-fit}
 use Rattle.checker.proofs.Fields.{to-batch-records, from-batch-records}
 use Rattle.checker.specs.Totals.{recordCount}
 use Rattle.walk.specs.declared.Parts.{Parts}
@@ -23,8 +24,8 @@ returns c =
     (joined-three (c .before .before .and-then4 .ensures) _ _ _ (c .before .before .before .and-then3 .ensures)
     (to-batch-records _ _ long (ap (λ (x : Parts). x .front) (c .before .before .before .before .before .before .before .before .before .before .before .before .before .before .before .before .before .check-parts .ensures)))
     (ahead (c .before .before .before .before .before .and-then .ensures) _ _ (rw many at (c .before .before .before .before .before .before .before .before .before .before .before .before .before .check-records .ensures)) (from-batch-records _ _ long (ap (λ (x : Parts). x .rest) (c .before .before .before .before .before .before .before .before .before .before .before .before .before .before .before .before .before .check-parts .ensures))))
-    (ahead (c .before .before .before .before .and-then2 .ensures) _ _ (rw (c .before .before .before .before .before .before .before .before .before .before .before .before .cents .ensures) at (c .before .before .before .before .before .before .before .before .before .before .check-cents .ensures))
-    (c .before .before .before .before .before .before .test .ensures ∙ rw (c .before .before .before .before .before .before .before .fit-a-file .ensures, c .before .before .before .before .before .before .before .before .before .cents2 .ensures, c .before .before .before .before .before .before .before .before .cents3 .ensures)))))
+    (ahead (c .before .before .before .before .and-then2 .ensures) _ _ (rw (c .before .before .before .before .before .before .before .before .before .before .before .before .cents .ensures ∙ cents-fit bound) at (c .before .before .before .before .before .before .before .before .before .before .check-cents .ensures))
+    (c .before .before .before .before .before .before .test .ensures ∙ rw (c .before .before .before .before .before .before .before .fit-a-file .ensures, c .before .before .before .before .before .before .before .before .before .cents2 .ensures ∙ closed-cents-fit bound, c .before .before .before .before .before .before .before .before .cents3 .ensures ∙ cents-fit bound)))))
 
 pub check-batch-trailer-spec : {M : Type 1} → statement M
 check-batch-trailer-spec =

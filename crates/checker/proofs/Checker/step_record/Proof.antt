@@ -37,7 +37,7 @@ module _ (s : Checker) (rec : List ℕ) where
   turned-away e a = rw (← (read e), a)
 
 after-requires : tie.Need-after-requires
-after-requires c κs = (c .before .before .before .before .before .before .before .before .before .pre .0, rw (c .before .before .before .shape-of .ensures) (room (c .before .before .before .before .before .before .before .before .before .pre .1) (c .before .before .before .before .before .reading .given .0 .0) _))
+after-requires c κs = (c .before .before .before .before .before .before .before .before .before .pre .0, rw (c .before .before .before .shape-of .ensures) (room (c .before .before .before .before .before .before .before .before .before .pre .1) (c .before .before .before .before .before .reading .given .0 .0) (c .before .before .before .before .before .before .before .before .before .args .rec .now)))
 
 returns : tie.Need-returns
 returns c = c .refuse .ensures ∙ rw (c .before .refused .ensures) (not-read _ _ (sym (c .before .before .before .before .line-is .ensures) ∙ c .before .before .enum-told .given .1))

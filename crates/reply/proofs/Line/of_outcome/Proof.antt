@@ -4,7 +4,7 @@ use Rattle.reply.proofs.Line.of_outcome.Statement.{statement}
 use Rattle.reply.proofs.Line.of_outcome.Tie as tie
 
 returns : tie.Need-returns
-returns c = rw (c .before .before .before .before .before .outcome .given .1, c .before .before .before .batches .ensures, c .before .before .records .ensures, c .before .payments .ensures, c .cents .ensures)
+returns c = rw (c .before .before .before .before .before .before .outcome .given .1, c .of-counts .ensures, c .before .before .before .before .batches .ensures, c .before .before .before .records .ensures, c .before .before .live .ensures, c .before .withdrawn .ensures)
 
 returns-2 : tie.Need-returns-2
 returns-2 c = rw (c .before .before .outcome2 .given .1) (c .of-refusal .ensures)
@@ -14,6 +14,7 @@ of-outcome-spec =
     tie.close
     (tie.spec
     (λ c. search needs)
+    (λ c κs. search needs)
     (λ c κs. search needs)
     (λ c κs. search needs)
     (λ c κs. search needs)
