@@ -1,6 +1,6 @@
 -- The checker counts what an accepted call puts in. Assumes nothing.
 use mathlib.Core.Path.{_≡_, refl, sym, ap, ap₂, subst, _∙_}
-use mathlib.Core.Bool.{true, false}
+use mathlib.Core.Bool.{true}
 use mathlib.Core.List.{List, [], _∷_}
 use Prim.Native.Nat.{ℕ, suc, _+_, _-_, _<_}
 use native.Mathlib.Omega.{arith}
@@ -22,8 +22,7 @@ use Rattle.layout.specs.Names.{before, indexOf}
 use Rattle.layout.specs.declared.Record.{Record}
 use Rattle.layout.specs.declared.Record.the-variants.{SegmentA, SegmentJ}
 use Rattle.layout.specs.laws.Records.{by-amount}
-use Rattle.layout.specs.Kinds.{asNumber}
-use Rattle.fields.specs.Values.{heldAs, ofRecord, nth}
+use Rattle.fields.specs.Values.{ofRecord, nth}
 use Rattle.fields.specs.declared.Fields.{Fields}
 use Rattle.checker.specs.Totals.{tally, bare, none, add, centSum, withdrawal, withdraws, counts, centsOf}
 use Rattle.checker.specs.laws.Sums.{both-parts, InAll, same-totals, add-none, add-assoc, counted, next-counts}
@@ -42,8 +41,7 @@ use Rattle.writer.specs.laws.Paying.{drop-one}
 use Rattle.writer.specs.laws.Given.{begins-with}
 use Rattle.writer.specs.laws.Accepted as accepted
 use Rattle.writer.specs.laws.Accepted.{kept, Right, Rights, rights}
-use Rattle.filling.specs.laws.Filled.{fillsAt, fillsIn, not-filled}
-use Rattle.writer.specs.laws.Reads.{Stands, stands-at, number-at}
+use Rattle.writer.specs.laws.Reads.{stands-at, GivenAt, read-given}
 use Rattle.writer.specs.laws.Lines.{bytes-length}
 
 -- ---- one record
@@ -51,12 +49,7 @@ use Rattle.writer.specs.laws.Lines.{bytes-length}
 value-is : (bs : List ℕ) (n : ℕ) → numberOf bs ≡ Is n → value bs ≡ n
 value-is bs n e = let g = digits-of bs n e in rw (le-leb (length bs) _ (g .few)) (sym (g .is))
 
--- a field that the caller gives as a number, and not the writer
-record GivenAt (r : Record) (f : Field) : Type 0 where
-  stands : Stands r (indexOf r f) f
-  number : heldAs f ≡ asNumber
-  unfilled : (s : Checker) → fillsAt (fillsIn r s) (indexOf r f) ≡ false
-
+-- what the caller gives of a payment
 amount-in-a : GivenAt SegmentA creditAmount
 unfolding fieldsOf indexOf before
 amount-in-a = record { stands = stands-at _ _ (lit≤ tt) refl; number = refl; unfilled = λ s. refl }
@@ -78,16 +71,12 @@ told : (rec : List ℕ) (n : ℕ) → length rec ≡ recordBytes → numberOf (p
 told rec n long e = digit-told (place (movementField .from) rec) n withdrawal (rw (one-place (movementField .from - 1) rec (omega arith)) at e)
 
 module _ {expected : List Record} {s : Checker} {r : Record} (v : Fields) (t : Right expected s (ofRecord r v)) where
-  -- it is read as it was given
-  read-given : {f : Field} → GivenAt r f → numberOf (part f (bytesOf s (ofRecord r v))) ≡ Is (nth (indexOf r f) v)
-  read-given {f} g = number-at (t .well) (g .stands) (g .number) ∙ ap Is (not-filled r s (ofRecord r v) (indexOf r f) (g .unfilled s))
-
-  -- so is the amount, and whether the payment is withdrawn
+  -- the amount is read as it was given, and so is whether the payment is withdrawn
   same-amount : {f : Field} → GivenAt r f → value (part f (bytesOf s (ofRecord r v))) ≡ nth (indexOf r f) v
-  same-amount g = value-is _ _ (read-given g)
+  same-amount g = value-is _ _ (read-given v (t .well) g)
 
   same-movement : GivenAt r movementField → withdraws (bytesOf s (ofRecord r v)) ≡ withdrawsAs r v
-  same-movement g = told (bytesOf s (ofRecord r v)) _ (bytes-length s (ofRecord r v) (t .well .whole)) (read-given g)
+  same-movement g = told (bytesOf s (ofRecord r v)) _ (bytes-length s (ofRecord r v) (t .well .whole)) (read-given v (t .well) g)
 
 -- the amount that is read is the one that was given
 abbrev AmountIs : Record → Type 0

@@ -1,11 +1,10 @@
 -- The kind of batch that is given is the one that the written batch header names. Assumes nothing.
-use mathlib.Core.Path.{_≡_, refl, sym, ap, _∙_}
+use mathlib.Core.Path.{_≡_, refl, sym}
 use mathlib.Core.List.{List}
 use Prim.Native.Nat.{_≤_}
 use native.Mathlib.Omega.{arith}
 use lib.Dec.{lit≤}
 use lib.ListN.{length}
-use Rattle.digits.specs.declared.spelling.Number.the-variants.{Is}
 use Rattle.layout.specs.Pairs.{batchOf}
 use Rattle.layout.specs.Field.{part}
 use Rattle.layout.specs.Table.{fieldsOf, serviceField, formField}
@@ -22,17 +21,22 @@ use Rattle.checker.specs.declared.Checker.{Checker}
 use Rattle.filling.specs.Filling.{bytesOf}
 use Rattle.writer.specs.Refusals.{kindGiven, leastDetails}
 use Rattle.writer.specs.laws.Accepted.{Right}
-use Rattle.filling.specs.laws.Filled.{not-filled}
-use Rattle.writer.specs.laws.Reads.{stands-at, number-at}
+use Rattle.writer.specs.laws.Reads.{stands-at, GivenAt, read-given}
+
+service-given : GivenAt BatchHeader serviceField
+unfolding fieldsOf indexOf before
+service-given = record { stands = stands-at _ _ (lit≤ tt) refl; number = refl; unfilled = λ s. refl }
+
+form-given : GivenAt BatchHeader formField
+unfolding fieldsOf indexOf before
+form-given = record { stands = stands-at _ _ (lit≤ tt) refl; number = refl; unfilled = λ s. refl }
 
 pub kind-is : {expected : List Record} {s : Checker} (v : Fields) → let g = ofRecord BatchHeader v in Right expected s g
     → batchOf (s .dir) (part serviceField (bytesOf s g)) (part formField (bytesOf s g)) ≡ kindGiven (s .dir) g
 unfolding fieldsOf indexOf before
 kind-is {s = s} v t =
     let g = ofRecord BatchHeader v in
-    let service = number-at (t .well) (stands-at (indexOf BatchHeader serviceField) serviceField (lit≤ tt) refl) refl ∙ ap Is (not-filled BatchHeader s g (indexOf BatchHeader serviceField) refl) in
-    let form = number-at (t .well) (stands-at (indexOf BatchHeader formField) formField (lit≤ tt) refl) refl ∙ ap Is (not-filled BatchHeader s g (indexOf BatchHeader formField) refl) in
-    sym (batch-is (s .dir) (part serviceField (bytesOf s g)) (part formField (bytesOf s g)) (sym service) (sym form))
+    sym (batch-is (s .dir) (part serviceField (bytesOf s g)) (part formField (bytesOf s g)) (sym (read-given v (t .well) service-given)) (sym (read-given v (t .well) form-given)))
 
 -- a kind that is known has a payment, and no other has
 pub least-named : (b : Batch) → 1 ≤ length (payment b) → length (payment b) ≡ leastDetails b

@@ -1,5 +1,6 @@
 -- In a well made record each field that is held as a number gives it: the caller's, or what the writer fills. Assumes nothing.
 use mathlib.Core.Path.{_≡_, ap, _∙_}
+use mathlib.Core.Bool.{false}
 use mathlib.Core.List.{List, [], _∷_, _++_}
 use Prim.Native.Nat.{ℕ, _<_}
 use native.Mathlib.Omega.{arith}
@@ -12,9 +13,10 @@ use Rattle.layout.specs.Field.{Field, part, none}
 use Rattle.layout.specs.Table.{line, typePlace, bankField, batchField, numberField, segmentFields, segmentPlace, fieldsOf}
 use Rattle.layout.specs.Records.{typeOf}
 use Rattle.layout.specs.Kinds.{asNumber}
+use Rattle.layout.specs.Names.{indexOf}
 use Rattle.layout.specs.laws.Indexes.{bank-index, batch-index, number-index}
 use Rattle.layout.specs.declared.Record.{Record}
-use Rattle.fields.specs.Values.{heldAs}
+use Rattle.fields.specs.Values.{heldAs, ofRecord, nth}
 use Rattle.fields.specs.laws.RoundTrip.{field-reads}
 use Rattle.fields.specs.declared.Fields.{Fields}
 use Rattle.checker.specs.Line.{behind}
@@ -22,7 +24,7 @@ use Rattle.checker.specs.declared.Checker.{Checker}
 use Rattle.checker.specs.laws.Details.{line-first, detail-of}
 use Rattle.filling.specs.Filling.{bankIndex, batchIndex, numberIndex, filled, bytesOf}
 use Rattle.writer.specs.laws.Accepted.{WellMade}
-use Rattle.filling.specs.laws.Filled.{fillsIn, numberFrom, filled-numbers}
+use Rattle.filling.specs.laws.Filled.{fillsAt, fillsIn, numberFrom, filled-numbers, not-filled}
 use Rattle.writer.specs.laws.Lines.{full-text}
 
 -- ---- where a field stands in the table
@@ -66,3 +68,15 @@ module _ {s : Checker} {g : Fields} (t : WellMade s g) {j : ℕ} {f : Field} (at
   -- what the writer fills there
   pub reads-at : (k : ℕ) → numberFrom (fillsIn (g .which) s) j (getD (g .numbers) j 0) ≡ k → numberOf (part f (bytesOf s g)) ≡ Is k
   reads-at k e = number-at ∙ ap Is (filled-numbers (g .which) s g (t .whole) j ∙ e)
+
+-- ---- a number that the caller gives, and not the writer
+
+pub record GivenAt (r : Record) (f : Field) : Type 0 where
+  pub stands : Stands r (indexOf r f) f
+  pub number : heldAs f ≡ asNumber
+  pub unfilled : (s : Checker) → fillsAt (fillsIn r s) (indexOf r f) ≡ false
+
+-- it is read as it was given
+pub read-given : {s : Checker} {r : Record} {f : Field} (v : Fields) → WellMade s (ofRecord r v) → GivenAt r f
+    → numberOf (part f (bytesOf s (ofRecord r v))) ≡ Is (nth (indexOf r f) v)
+read-given {s} {r} {f} v t g = number-at t (g .stands) (g .number) ∙ ap Is (not-filled r s (ofRecord r v) (indexOf r f) (g .unfilled s))
