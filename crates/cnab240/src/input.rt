@@ -1,53 +1,31 @@
-// Standard input, a buffer at a time.
+// Standard input, a part at a time.
 use libc::STDIN_FILENO;
 ghost use mathlib.Core.Path.{_≡_};
-ghost use Prim.Native.Nat.{_+_, _≤_};
 ghost use lib.ListN.{length};
 ghost use Rattle.cnab240.specs.inner.Sizes.{Within};
 
-// 270 lines.
+// 270 lines: where each read fills it, as of a file on disk, no line lies in two parts.
 pub(crate) const BUFFER_BYTES: usize = 65340;
 
 pub(crate) enum Input {
-    Full,
-    Ended(usize),
+    // So many bytes of the buffer.
+    Part(usize),
+    Ended,
     Failed,
 }
 
-struct Part {
-    failed: bool,
-    bytes: usize,
-}
-
-// One read into the buffer behind what is filled.
-fn read_behind(buf: &mut [u8], filled: usize) -> Part
-    requires { ⌜ filled ≤ length (now buf) ⌝ }
-    ensures { λ r. ⌜ filled + r .bytes ≤ length (now (buf .entry)) ⌝ }
-    ensures { λ _. ⌜ length (now (buf .exit)) ≡ length (now (buf .entry)) ⌝ }
-{
-    let free = &mut buf[filled..];
-    let got = libc::read(STDIN_FILENO, free);
-    Part {
-        failed: got < 0,
-        bytes: io::count(got, free),
-    }
-}
-
-// Reads until the buffer is full or the input ends, however small the parts that come.
-pub(crate) fn fill(buf: &mut [u8]) -> Input
+// One read into the buffer, which gives what is there.
+pub(crate) fn read(buf: &mut [u8]) -> Input
     ensures { λ r. ⌜ Within r (length (now (buf .entry))) ⌝ }
     ensures { λ _. ⌜ length (now (buf .exit)) ≡ length (now (buf .entry)) ⌝ }
 {
-    let mut filled = 0;
-    while filled < buf.len() {
-        let part = read_behind(buf, filled);
-        if part.failed {
-            return Input::Failed;
-        }
-        if part.bytes == 0 {
-            return Input::Ended(filled);
-        }
-        filled += part.bytes;
+    let got = libc::read(STDIN_FILENO, buf);
+    if got < 0 {
+        return Input::Failed;
     }
-    Input::Full
+    let bytes = io::count(got, buf);
+    if bytes == 0 {
+        return Input::Ended;
+    }
+    Input::Part(bytes)
 }

@@ -1,8 +1,8 @@
 -- The numbers of a record's fields, stored one after the other, and what is stored in the end. Assumes nothing.
 use mathlib.Core.Path.{_≡_, sym, _∙_}
 use mathlib.Core.List.{List, [], _∷_, _++_, append-assoc}
-use Prim.Native.Nat.{ℕ, zero, suc, _+_, _-_, _≤_, _<_}
-use native.Mathlib.Nat.{add-zero, zero-add, sub-zero, zero-sub, suc-sub-suc, le-antisymm}
+use Prim.Native.Nat.{ℕ, suc, _+_, _-_, _≤_, _<_}
+use native.Mathlib.Nat.{add-zero, zero-add, le-antisymm}
 use native.Mathlib.Numerals.{add-one}
 use native.Mathlib.Omega.{arith}
 use lib.ListN.{length, take, drop, set, replicate, length-set, take-append-drop}
@@ -11,6 +11,7 @@ use Rattle.layout.specs.inner.Lent.{kindOf, fieldCount}
 use Rattle.layout.specs.Field.{Field, part, none}
 use Rattle.layout.specs.Table.{fieldsOf, all}
 use Rattle.layout.specs.Kinds.{means}
+use Rattle.layout.specs.laws.Bytes.{drop-replicate}
 use Rattle.layout.specs.laws.Columns.{Stands, all-length}
 use Rattle.layout.specs.declared.Record.{Record}
 use Rattle.digits.specs.Digits.{places}
@@ -45,11 +46,6 @@ store-all (f ∷ fs) rec i ns h =
     let w : i + suc (length fs) ≡ suc i + length fs = omega arith in
     store-all fs rec (suc i) (set ns i n) k
     ∙ rw (take-suc-set ns i n m, drop-set-lt (suc i + length fs) ns i n (omega arith), append-assoc, w)
-
-drop-replicate : (k n x : ℕ) → drop k (replicate n x) ≡ replicate (n - k) x
-drop-replicate zero n x = rw sub-zero
-drop-replicate (suc k) zero x = rw zero-sub
-drop-replicate (suc k) (suc n) x = rw suc-sub-suc (drop-replicate k n x)
 
 pub store-record : (r : Record) (fs : List Field) (rec : List ℕ) → fs ≡ fieldsOf r → length (fieldsOf r) ≤ mostFields
     → storeFields fs rec 0 (replicate mostFields 0) ≡ fieldsIn r rec .numbers

@@ -1,4 +1,4 @@
--- One turn over many lines, and the states behind details. Assumes nothing.
+-- One turn over many lines. Assumes nothing.
 use mathlib.Core.Path.{_≡_, refl, sym, ap, _∙_}
 use mathlib.Core.Bool.{Bool, true, false}
 use mathlib.Core.List.{List}
@@ -13,7 +13,7 @@ use Rattle.answer.specs.declared.Answer.{Answer}
 use Rattle.answer.specs.declared.Answer.the-variants.{Accepted, Refused}
 use Rattle.checker.specs.Line.{lineBytes}
 use Rattle.checker.specs.Machine.{stepped, stepOf}
-use Rattle.files.specs.File.{linesOf, unless, steps, leaving, endOf, outcome}
+use Rattle.files.specs.File.{linesOf, unless, steps}
 use Rattle.files.specs.laws.Runs.{no-lines, next-line}
 use Rattle.checker.specs.declared.Checker.{Checker}
 use Rattle.checker.specs.declared.Stepped.{Stepped}
@@ -52,23 +52,6 @@ pub no-more : (part : List ℕ) (at : ℕ) (s : Checker) → length part ≤ at 
 unfolding steps
 no-more part at s h = rw (drop-of-length-le part {i = at} h, no-lines)
 
--- a refusal ends the steps, and leaves the state that the call was given
-stopped : (a : Answer) (on stop all : Stepped) {r : Refusal} → a ≡ Refused r → unless a on stop ≡ all → stop ≡ all
-stopped a on stop all e h = rw e at h
-
-pub stop-here : (s : Checker) (on stop all : Stepped) {r : Refusal} → stop .answer ≡ Refused r → unless (stop .answer) on stop ≡ all
-    → stepped s (stop .answer) ≡ leaving s all
-stop-here s on stop all e h = let same = stopped (stop .answer) on stop all e h in rw (← same, e)
-
--- no refusal leaves the state behind all lines
-pub all-done : (s : Checker) {t : Checker} (all : Stepped) → stepped t Accepted ≡ all → stepped t Accepted ≡ leaving s all
-all-done s all h = rw (← h)
-
--- a call, and then the end: the end's outcome is that of the lines
-pub then-end : (s : Checker) (all r : Stepped) → r ≡ leaving s all → outcome (r .answer) (endOf (r .state)) ≡ outcome (all .answer) (endOf (all .state))
-then-end s all r e = rw e (go (all .answer) refl)
-  where
-    go : (a : Answer) → all .answer ≡ a
-        → outcome (unless a all (stepped s a) .answer) (endOf (unless a all (stepped s a) .state)) ≡ outcome a (endOf (all .state))
-    go Accepted q = rw q
-    go (Refused r) q = refl
+-- a refusal ends the steps
+pub stop-here : (a : Answer) (on stop all : Stepped) {r : Refusal} → a ≡ Refused r → unless a on stop ≡ all → stop ≡ all
+stop-here a on stop all e h = rw e at h

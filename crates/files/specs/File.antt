@@ -5,6 +5,7 @@ use mathlib.Core.List.{List, [], _∷_}
 use Prim.Native.Nat.{ℕ, zero, suc, _≤_, _<_}
 use lib.ListN.{length, take, drop}
 use Rattle.answer.specs.Rules.{noLine, refusal}
+use Rattle.answer.specs.declared.Refusal.{Refusal}
 use Rattle.answer.specs.declared.Answer.{Answer}
 use Rattle.answer.specs.declared.Answer.the-variants as answer
 use Rattle.checker.specs.Order.{ended}
@@ -12,8 +13,8 @@ use Rattle.checker.specs.Line.{lineBytes}
 use Rattle.checker.specs.Machine.{start, lineOf, sound, stepped, stepOf}
 use Rattle.checker.specs.declared.Checker.{Checker}
 use Rattle.checker.specs.declared.Stepped.{Stepped}
-use Rattle.files.specs.declared.Outcome.{Outcome}
-use Rattle.files.specs.declared.Outcome.the-variants.{Accepted, Refused}
+use Rattle.files.specs.declared.whole.Outcome.{Outcome}
+use Rattle.files.specs.declared.whole.Outcome.the-variants.{Accepted, Refused}
 
 -- lines are parts of 242 bytes; a last one may be shorter, and is not empty
 pub data Lines : List (List ℕ) → Type 0 where
@@ -40,26 +41,25 @@ unfoldable pub steps : Checker → List (List ℕ) → Stepped
 steps s [] = stepped s answer.Accepted
 steps s (l ∷ ls) = unless (stepOf s l .answer) (steps (stepOf s l .state) ls) (stepOf s l)
 
--- a call that refuses leaves the state that it was given
-abbrev pub leaving : Checker → Stepped → Stepped
-leaving s x = unless (x .answer) x (stepped s (x .answer))
-
--- many lines in one call
-abbrev pub run : Checker → List ℕ → Stepped
-run s bytes = leaving s (steps s (linesOf bytes))
+-- a call that the state does not allow
+abbrev pub outOfTurn : Refusal
+outOfTurn = refusal 51 noLine 0
 
 -- the end, declared: behind the file trailer the totals, else 2
 unfoldable pub endOf : Checker → Outcome
-endOf s =
-    cond (sound s) (cond (ended (s .phase)) (Accepted (s .closed)) (Refused (refusal 2 (lineOf s) 0))) (Refused (refusal 51 noLine 0))
+endOf s = cond (sound s) (cond (ended (s .phase)) (Accepted (s .closed)) (Refused (refusal 2 (lineOf s) 0))) (Refused outOfTurn)
 
 abbrev pub outcome : Answer → Outcome → Outcome
 outcome answer.Accepted end = end
 outcome (answer.Refused r) end = Refused r
 
--- the end of the input, with the bytes that are left of it: their lines, and then the end
+-- lines, and then the end
+abbrev pub whole : Checker → List (List ℕ) → Outcome
+whole s ls = outcome (steps s ls .answer) (endOf (steps s ls .state))
+
+-- the end of the input, with the bytes that are left of it
 unfoldable pub finish : Checker → List ℕ → Outcome
-finish s rest = outcome (steps s (linesOf rest) .answer) (endOf (steps s (linesOf rest) .state))
+finish s rest = whole s (linesOf rest)
 
 abbrev pub checkFile : List ℕ → Outcome
 checkFile file = finish start file

@@ -2,3 +2,6 @@
 pub mod Runs
 pub mod Ends
 pub mod Verdict
+pub mod Joins
+pub mod Arrivals
+pub mod Told

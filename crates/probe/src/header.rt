@@ -25,6 +25,7 @@ pub(crate) enum Op {
     WriteRecord(Record, Direction),
     CheckFile,
     StepLines,
+    TakeParts,
     Script,
     Malformed,
 }
@@ -108,6 +109,7 @@ fn op_of(op: u8, kind: u8, direction: u8) -> Op {
         b'W' => record_op(op, kind, direction),
         b'F' => plain_op(Op::CheckFile, kind, direction),
         b'L' => plain_op(Op::StepLines, kind, direction),
+        b'T' => plain_op(Op::TakeParts, kind, direction),
         b'P' => plain_op(Op::Script, kind, direction),
         _ => Op::Malformed,
     }

@@ -8,7 +8,9 @@
 // a number, or `-`, for each field, and by a line with the text. W writes a record: the payload has 20
 // digits for each field, and then the text. F checks a whole file, and its line is the program's. L
 // steps over lines: the payload has calls, each six digits for a length and so many bytes; there is a
-// line for each call, and then one for the end, as of F.
+// line for each call, and then one for the end, as of F. T takes a file in parts: the payload has
+// steps, each a part, `+` and then as a call of L, or the end, `.`; there is a line for each step, of
+// an end as of F, and then `AT` and how many lines were accepted.
 //
 // P writes a file: the payload is a script of the writer's calls. A call is a letter (O opens the
 // file, L a batch, P pays, C closes the batch, E the file), a digit for the number of its records (1,
@@ -17,6 +19,7 @@
 // output memory, or all it has; X and a byte, with which the whole of it is overwritten. There is a
 // line for each call, of an accepted E as of F, and then the output memory.
 mod header;
+mod parts;
 mod print;
 mod records;
 mod scripts;
@@ -57,6 +60,7 @@ fn call(op: Op, payload: &[u8], out: &mut [u8]) {
         Op::WriteRecord(which, dir) => records::write(payload, which, dir, out),
         Op::CheckFile => whole::check(payload),
         Op::StepLines => whole::step_lines(payload),
+        Op::TakeParts => parts::take(payload),
         Op::Script => scripts::run(payload, out),
         Op::Malformed => print::malformed(),
     }

@@ -17,6 +17,13 @@ pub(crate) fn outcome(outcome: Outcome) {
     Line::of_outcome(outcome).print();
 }
 
+// How many lines of a file in parts were accepted.
+pub(crate) fn lines(accepted: u64) {
+    bytes(b"AT");
+    reply::spaced(accepted);
+    bytes(b"\n");
+}
+
 pub(crate) fn malformed() {
     line(Answer::refused(0, 0));
 }

@@ -8,17 +8,17 @@ ghost use Prim.Native.Nat.{_≤_, _<_};
 ghost use lib.ListN.{length};
 
 // Where the bytes of a call stand in the payload; not right where it has no such call.
-struct Call {
-    right: bool,
-    start: usize,
-    end: usize,
+pub(crate) struct Call {
+    pub(crate) right: bool,
+    pub(crate) start: usize,
+    pub(crate) end: usize,
 }
 
 pub(crate) fn check(payload: &[u8]) {
     print::outcome(files::check_file(payload));
 }
 
-fn no_call(payload: &[u8]) -> Call
+pub(crate) fn no_call(payload: &[u8]) -> Call
     ensures { λ r. ⌜ (r .start ≤ r .end) × (length (now (payload .entry)) ≤ r .end) × (r .end ≤ length (now (payload .entry))) ⌝ }
 {
     Call {
@@ -29,7 +29,7 @@ fn no_call(payload: &[u8]) -> Call
 }
 
 // The call that begins at this index of the payload.
-fn call_at(payload: &[u8], at: usize) -> Call
+pub(crate) fn call_at(payload: &[u8], at: usize) -> Call
     requires { ⌜ at < length (now payload) ⌝ }
     ensures { λ r. ⌜ (r .start ≤ r .end) × (at < r .end) × (r .end ≤ length (now (payload .entry))) ⌝ }
 {
@@ -77,7 +77,7 @@ fn make_calls(payload: &[u8]) {
         state = next;
         at = end;
     }
-    print::outcome(files::finish(state, b""));
+    print::outcome(files::end(state));
 }
 
 // A payload that is no list of calls makes none.

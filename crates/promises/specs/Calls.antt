@@ -1,9 +1,9 @@
--- How calls end: document 01's table of numbers with their places, and what is said of every call on the checker, on the writer, with one
--- record and with digit strings. Assumes nothing.
+-- How calls end: document 01's table of numbers with their places, and what is said of every call on the checker, on the checker in parts,
+-- on the writer, with one record and with digit strings. Assumes nothing.
 use mathlib.Core.Path.{_≡_}
-use mathlib.Core.Logic.{_⊎_}
+use mathlib.Core.Logic.{_⊎_, _≢_}
 use mathlib.Core.Bool.{Bool, false, cond, _&&_, _||_}
-use mathlib.Core.List.{List, [], _∷_, _++_}
+use mathlib.Core.List.{List, [], _∷_}
 use Prim.Native.Nat.{ℕ, suc, _+_, _≤_, _<_}
 use lib.Dec.{T, leb, eqb}
 use lib.ListN.{length}
@@ -25,13 +25,17 @@ use Rattle.fields.specs.Values.{recordOf, readRecord, noFields}
 use Rattle.fields.specs.declared.Fields.{Fields}
 use Rattle.checker.specs.Line.{lineBytes, generalPlace, factorPlace, centsPlace}
 use Rattle.checker.specs.Machine.{start, lineOf, stepOf}
-use Rattle.files.specs.File.{linesOf, steps, run, finish}
-use Rattle.checker.specs.Calls.{Reached, Through}
+use Rattle.files.specs.File.{linesOf, endOf, checkFile}
+use Rattle.files.specs.Parts.{arrived, partCall, endCall}
+use Rattle.files.specs.Calls.{PartsCall, behindCall, fed}
+use Rattle.checker.specs.Calls.{Reached}
 use Rattle.checker.specs.declared.totals.Totals.{Totals}
 use Rattle.checker.specs.declared.Checker.{Checker}
-use Rattle.checker.specs.declared.Stepped.{Stepped}
-use Rattle.files.specs.declared.Outcome.{Outcome}
-use Rattle.files.specs.declared.Outcome.the-variants as outcome
+use Rattle.files.specs.declared.whole.Outcome.{Outcome}
+use Rattle.files.specs.declared.incoming.Status.{Status}
+use Rattle.files.specs.declared.incoming.Status.the-variants as status
+use Rattle.files.specs.declared.incoming.Incoming.{Incoming}
+use Rattle.files.specs.declared.whole.Outcome.the-variants as outcome
 use Rattle.writer.specs.Given.{Call, recordsOf}
 use Rattle.writer.specs.Outcome.{newWriter, Wrote}
 use Rattle.writer.specs.Calls.{AllWhole, Lent, WholeCalls, left}
@@ -121,7 +125,7 @@ pub data Ends {A : Type 0} (before after : A) (OnLine : ℕ → Type 0) : Answer
   accepted : Ends before after OnLine Accepted
   refused : {r : Refusal} → InTable r → OnLine (r .line .0) → after ≡ before → Ends before after OnLine (Refused r)
 
--- the same of an input's end, which leaves no state
+-- the same of an end, which gives totals
 pub data Concludes (OnLine : ℕ → Type 0) : Outcome → Type 0 where
   accepted : {t : Totals} → Concludes OnLine (outcome.Accepted t)
   refused : {r : Refusal} → InTable r → OnLine (r .line .0) → Concludes OnLine (outcome.Refused r)
@@ -140,26 +144,21 @@ nothing = tt
 abbrev pub OneOfNext : ℕ → Checker → ℕ → Type 0
 OneOfNext lines s n = (lineOf s .0 ≤ n) × (n < lineOf s .0 + lines)
 
--- a call with many lines ends as one with the line behind those that are accepted; a refusal leaves the state that the call was given
-pub record EndsBehind (s : Checker) (ls : List (List ℕ)) (x : Stepped) : Type 0 where
-  pub earlier : List (List ℕ)
-  pub later : List (List ℕ)
-  pub before : Checker
-  pub are : ls ≡ earlier ++ later
-  pub through : Through s earlier before
-  pub ends : Ends s (x .state) (λ n. n ≡ lineOf before .0) (x .answer)
-
--- calls on the checker in a state: with a line, with many lines, with the rest of the input
+-- calls on the checker in a state: with a line, and for the end
 pub record CheckerCalls (s : Checker) : Type 0 where
   pub line : (l : List ℕ) → Ends s (stepOf s l .state) (λ n. n ≡ lineOf s .0) (stepOf s l .answer)
-  pub lines : (part : List ℕ) → EndsBehind s (linesOf part) (run s part)
-  pub end : (rest : List ℕ) → Concludes (OneOfNext (suc (length (linesOf rest))) s) (finish s rest)
+  pub end : Concludes (λ n. n ≡ lineOf s .0) (endOf s)
 
--- the states that public functions give are those that lines lead to: the start, behind a line, behind many, and the writer's behind any calls
+-- a whole file
+abbrev pub FileCalls : Type 0
+FileCalls = (file : List ℕ) → Concludes (OneOfNext (suc (length (linesOf file))) start) (checkFile file)
+
+-- the states that public functions give are those that lines lead to: the start, behind a line, and those of the checker in parts and of the
+-- writer behind any calls
 pub record OnlyReached : Type 0 where
   pub at-start : Reached start
   pub by-line : {s : Checker} → Reached s → (l : List ℕ) → Reached (stepOf s l .state)
-  pub by-lines : {s : Checker} → Reached s → (part : List ℕ) → Reached (run s part .state)
+  pub in-parts : (cs : List PartsCall) → Reached (fed (arrived []) cs .machine)
   pub in-writer : (ls : List Lent) → WholeCalls ls → Reached (left newWriter ls .checker)
 
 -- the line that is next in a state; or none, where the state is one that no calls lead to (51)
@@ -169,8 +168,21 @@ NextOrNone s n = (n ≡ lineOf s .0) ⊎ (n ≡ 0)
 -- calls on the checker in a state, whatever it is
 pub record AnyCalls (s : Checker) : Type 0 where
   pub line : (l : List ℕ) → Ends s (stepOf s l .state) (NextOrNone s) (stepOf s l .answer)
-  pub lines : (part : List ℕ) → Ends s (run s part .state) (NextOrNone (steps s (linesOf part) .state)) (run s part .answer)
-  pub end : (rest : List ℕ) → Concludes (NextOrNone (steps s (linesOf rest) .state)) (finish s rest)
+  pub end : Concludes (NextOrNone s) (endOf s)
+
+-- the line that a refusal of the checker in parts names: the one that is next in the machine, or none behind an accepted end
+abbrev pub LineIn : Status → Checker → ℕ → Type 0
+LineIn status.Open m n = n ≡ lineOf m .0
+LineIn (status.Refused r) m n = n ≡ lineOf m .0
+LineIn status.Ended m n = n ≡ 0
+
+-- calls on the checker in parts, in a state: with a part, and for the end. A part that is refused changes the state, which is request 1's
+-- exception: the state remembers the refusal, and the lines before it in that part stay counted. Behind that, and behind an end, no call
+-- changes it
+pub record IncomingCalls (s : Incoming) : Type 0 where
+  pub part : (bytes : List ℕ) → let t = partCall s bytes .state in Ends nothing nothing (LineIn (t .status) (t .machine)) (partCall s bytes .answer)
+  pub end : Concludes (LineIn (s .status) (s .machine)) (endCall s .outcome)
+  pub shut : s .status ≢ status.Open → (c : PartsCall) → behindCall s c ≡ s
 
 -- calls on the writer in a state, each lent an output: they might change both
 pub record WriterCalls (w : Writer) : Type 0 where

@@ -1,7 +1,9 @@
--- The demands, said of any checker, any writer and any converters of digit strings, whatever they are made of. Assumes nothing.
+-- The demands, said of any checker, any checker in parts, any writer and any converters of digit strings, whatever they are made of. Assumes
+-- nothing.
 use mathlib.Core.Path.{_≡_}
 use mathlib.Core.Logic.{_≢_, _↔_}
-use mathlib.Core.List.{List, [], _∷_}
+use mathlib.Core.List.{List, [], _∷_, _++_}
+use mathlib.Core.Bool.{cond}
 use Prim.Native.Nat.{ℕ, _≤_}
 use lib.ListN.{length, take, drop}
 use Rattle.answer.specs.Rules.{AllKept}
@@ -11,11 +13,15 @@ use Rattle.answer.specs.declared.Answer.the-variants as answer
 use Rattle.digits.specs.Digits.{place}
 use Rattle.boleto.specs.Strings.{barcodeDigits, lineDigits}
 use Rattle.boleto.specs.Rules.{barcodeRules, digitLineRules}
-use Rattle.files.specs.File.{checkFile}
+use Rattle.checker.specs.Machine.{start}
+use Rattle.files.specs.File.{linesOf, steps, outOfTurn, checkFile}
+use Rattle.files.specs.Parts.{arrived, answerIn, statusBehind}
+use Rattle.files.specs.Calls.{PartsCall, part, end, bytesOf, endDeclared}
+use Rattle.checker.specs.declared.Checker.{Checker}
 use Rattle.layout.specs.declared.shapes.Phase.the-variants.{Ended}
 use Rattle.checker.specs.declared.totals.Totals.{Totals}
-use Rattle.files.specs.declared.Outcome.{Outcome}
-use Rattle.files.specs.declared.Outcome.the-variants.{Accepted, Refused}
+use Rattle.files.specs.declared.whole.Outcome.{Outcome}
+use Rattle.files.specs.declared.whole.Outcome.the-variants.{Accepted, Refused}
 use Rattle.writer.specs.Given.{Call}
 use Rattle.writer.specs.Outcome.{newWriter, answerOf}
 use Rattle.writer.specs.Calls.{Lent, WholeCalls, stateBehind, left, fileOf, putIn, lentOn}
@@ -33,6 +39,35 @@ Demand2 check = (file : List ℕ) (t : Totals) → check file ≡ Accepted t ↔
 abbrev pub Demand3 : (List ℕ → Outcome) → Type 0
 Demand3 check = (file : List ℕ) (t : Totals) (n p b : ℕ) → check file ≡ Accepted t → GuardedIn file n p → b ≢ place p (lineAt n file)
     → (r : Refusal) × (check (changed file n p b) ≡ Refused r)
+
+-- ---- a checker in parts: states of any kind, a call with a part, and a call for the end
+
+-- its states, the one that it starts in, and its calls, each with its answer
+pub record AnyIncoming : Type 1 where
+  pub State : Type 0
+  pub new : State
+  pub part : State → List ℕ → State × Answer
+  pub end : State → State × Outcome
+  pub machine : State → Checker
+
+-- behind calls
+module _ (w : AnyIncoming) where
+  unfoldable pub stateFed : w .State → List PartsCall → w .State
+  stateFed s [] = s
+  stateFed s (part bytes ∷ cs) = stateFed (w .part s bytes .0) cs
+  stateFed s (end ∷ cs) = stateFed (w .end s .0) cs
+
+-- what an end says behind an end: an acceptance is not given again
+abbrev pub saidAgain : Outcome → Outcome
+saidAgain (Accepted t) = Refused outOfTurn
+saidAgain (Refused r) = Refused r
+
+-- behind any calls, each answer is that of the bytes so far and of whether the end is declared, and the machine is that of the whole-file check
+pub record PartsDemand (w : AnyIncoming) : Type 0 where
+  pub told : (cs : List PartsCall) (bytes : List ℕ) → w .part (stateFed w (w .new) cs) bytes .1
+      ≡ answerIn (cond (endDeclared cs) (statusBehind (checkFile (bytesOf cs))) (arrived (bytesOf cs ++ bytes) .status))
+  pub ended : (cs : List PartsCall) → let whole = checkFile (bytesOf cs) in w .end (stateFed w (w .new) cs) .1 ≡ cond (endDeclared cs) (saidAgain whole) whole
+  pub counted : (cs : List PartsCall) → w .machine (stateFed w (w .new) cs) ≡ steps start (linesOf (bytesOf cs)) .state
 
 -- ---- a writer: states of any kind, and calls that are lent an output
 

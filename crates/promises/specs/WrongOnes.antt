@@ -1,20 +1,26 @@
--- Wrong checkers, writers and converters that the paper names, by what they show. Assumes nothing.
+-- Wrong checkers, checkers in parts, writers and converters that the paper names, by what they show. Assumes nothing.
 use mathlib.Core.Path.{_≡_}
+use mathlib.Core.Bool.{false}
 use mathlib.Core.List.{List, [], _∷_, _++_, flatten}
-use Prim.Native.Nat.{ℕ}
+use Prim.Native.Nat.{ℕ, _<_}
 use lib.ListN.{length}
 use Rattle.answer.specs.declared.Refusal.{Refusal}
 use Rattle.answer.specs.declared.Answer.{Answer}
-use Rattle.answer.specs.declared.Answer.the-variants.{Refused}
+use Rattle.answer.specs.declared.Answer.the-variants.{Accepted, Refused}
 use Rattle.layout.specs.declared.Direction.{Direction}
 use Rattle.layout.specs.declared.Record.the-variants.{FileHeader}
 use Rattle.checker.specs.Line.{lineBytes, headerBatch}
+use Rattle.checker.specs.Order.{ended}
+use Rattle.checker.specs.Machine.{start}
+use Rattle.checker.specs.Calls.{Through}
+use Rattle.checker.specs.declared.Checker.{Checker}
 use Rattle.checker.specs.declared.totals.Totals.{Totals}
-use Rattle.files.specs.declared.Outcome.{Outcome}
+use Rattle.files.specs.Calls.{PartsCall, bytesOf, endDeclared}
+use Rattle.files.specs.declared.whole.Outcome.{Outcome}
 use Rattle.writer.specs.Given.{Call, pay}
 use Rattle.writer.specs.declared.given.Payment.{Payment}
 use Rattle.promises.specs.Grammar.{Numbered, RightBatch}
-use Rattle.promises.specs.Demands.{AnyWriter, answersFrom, outputFrom}
+use Rattle.promises.specs.Demands.{AnyIncoming, stateFed, AnyWriter, answersFrom, outputFrom}
 
 -- ---- a checker that looks at the first batch only
 
@@ -33,6 +39,27 @@ pub record FirstBatch (front : List ℕ) : Type 0 where
 abbrev pub FirstBatchOnly : (List ℕ → Outcome) → Type 0
 FirstBatchOnly check = (front later other last : List ℕ) → FirstBatch front → length later ≡ length other → length last ≡ lineBytes
     → check (front ++ (later ++ last)) ≡ check (front ++ (other ++ last))
+
+-- ---- checkers in parts
+
+-- one that puts everything off to the end: every part before it is taken
+abbrev pub PutsOff : AnyIncoming → Type 0
+PutsOff w = (cs : List PartsCall) → endDeclared cs ≡ false → (bytes : List ℕ) → w .part (stateFed w (w .new) cs) bytes .1 ≡ Accepted
+
+-- one that looks into a line that is not finished: behind lines that are accepted, not the file trailer, it refuses less than a line
+pub record LooksInto (w : AnyIncoming) : Type 0 where
+  pub calls : List PartsCall
+  pub bytes : List ℕ
+  pub earlier : List (List ℕ)
+  pub line : List ℕ
+  pub to : Checker
+  pub before-end : endDeclared calls ≡ false
+  pub are : bytesOf calls ++ bytes ≡ flatten earlier ++ line
+  pub through : Through start earlier to
+  pub going : ended (to .phase) ≡ false
+  pub less : length line < lineBytes
+  pub refusal : Refusal
+  pub refused : w .part (stateFed w (w .new) calls) bytes .1 ≡ Refused refusal
 
 -- ---- writers
 

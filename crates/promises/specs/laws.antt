@@ -23,6 +23,7 @@ pub mod AcceptedFiles
 pub mod Ways
 pub mod SecondBatch
 pub mod ShutOut
+pub mod WrongParts
 pub mod WrongWriters
 pub mod WrongConverters
 pub mod Ahead

@@ -8,8 +8,8 @@ use Rattle.answer.specs.declared.Answer.{Answer}
 use Rattle.answer.specs.declared.Answer.the-variants as answer
 use Rattle.checker.specs.Totals.{batchCount, recordCount, livePayments, liveCents, withdrawnPayments, withdrawnCents}
 use Rattle.checker.specs.declared.totals.Totals.{Totals}
-use Rattle.files.specs.declared.Outcome.{Outcome}
-use Rattle.files.specs.declared.Outcome.the-variants as file
+use Rattle.files.specs.declared.whole.Outcome.{Outcome}
+use Rattle.files.specs.declared.whole.Outcome.the-variants as file
 use Rattle.reply.specs.declared.Line.{Line}
 
 -- the most numbers that a line has

@@ -65,6 +65,8 @@ fn rest_behind(first_line: &[u8], request: &Request) -> Rest {
         Call::ReadRecord { .. } | Call::CheckFile => Rest::NOTHING,
         // The end's line comes last, so there is one line more than calls.
         Call::CheckLines => Rest::lines(request.line_calls().map_or(0, |calls| calls.len())),
+        // And here the line that says how many lines were accepted.
+        Call::CheckParts => Rest::lines(request.part_calls().map_or(0, |calls| calls.len())),
         Call::WriteFile { room } => match request.script() {
             Ok(script) => Rest {
                 lines: calls_in(&script).saturating_sub(1),

@@ -2,6 +2,7 @@
 //! and the conversation with the running program.
 
 pub mod conversation;
+pub mod part_calls;
 pub mod probe;
 pub mod replies;
 pub mod values;

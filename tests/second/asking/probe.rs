@@ -1,8 +1,10 @@
 //! The protocol of the program under test: how a request is written and what
 //! it asks for.
 
+use crate::asking::part_calls::{self, PartMisfit};
 use crate::asking::writer_script::{self, Misfit, Step};
 use crate::paper::digit_strings::Conversion;
+use crate::paper::parts::PartCall;
 use crate::paper::record_kinds::{all_subjects, RecordKind, Subject};
 
 pub const HEADER_BYTES: usize = 16;
@@ -34,9 +36,10 @@ pub enum Op {
     CheckFile,
     CheckLines,
     WriteFile,
+    CheckParts,
 }
 
-pub const OPS: [Op; 7] = [
+pub const OPS: [Op; 8] = [
     Op::BarcodeToLine,
     Op::LineToBarcode,
     Op::ReadRecord,
@@ -44,6 +47,7 @@ pub const OPS: [Op; 7] = [
     Op::CheckFile,
     Op::CheckLines,
     Op::WriteFile,
+    Op::CheckParts,
 ];
 
 impl Op {
@@ -56,6 +60,7 @@ impl Op {
             Op::CheckFile => b'F',
             Op::CheckLines => b'L',
             Op::WriteFile => b'P',
+            Op::CheckParts => b'T',
         }
     }
 
@@ -120,6 +125,7 @@ pub enum Call {
     CheckFile,
     CheckLines,
     WriteFile { room: usize },
+    CheckParts,
 }
 
 pub fn header(op: u8, direction: u8, room: usize, length: usize) -> Header {
@@ -194,6 +200,7 @@ impl Request {
             Op::CheckFile => self.names_no_record().then_some(Call::CheckFile),
             Op::CheckLines => self.names_no_record().then_some(Call::CheckLines),
             Op::WriteFile => self.names_no_record().then_some(Call::WriteFile { room }),
+            Op::CheckParts => self.names_no_record().then_some(Call::CheckParts),
         }
     }
 
@@ -214,6 +221,11 @@ impl Request {
     /// The steps of a script for the writer, or why the payload is none.
     pub fn script(&self) -> Result<Vec<Step>, Misfit> {
         writer_script::from_payload(&self.payload)
+    }
+
+    /// The calls of a file in parts, or why the payload is none.
+    pub fn part_calls(&self) -> Result<Vec<PartCall<'_>>, PartMisfit> {
+        part_calls::from_payload(&self.payload)
     }
 
     fn names_no_record(&self) -> bool {

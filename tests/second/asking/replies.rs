@@ -4,6 +4,8 @@ use crate::paper::answers::{Answer, Verdict};
 
 /// The number of the reply to a malformed request; no row of document 01.
 pub const MALFORMED: u32 = 0;
+/// How the line begins that says how far a file in parts was accepted.
+const REACHED: &str = "AT";
 
 impl Answer {
     pub fn malformed() -> Answer {
@@ -27,6 +29,8 @@ impl Answer {
 
     pub fn as_reply(&self) -> Reply {
         let lines = self.lines.iter().map(|line| format!("{line}\n"));
+        let reached = self.accepted_lines.iter();
+        let lines = lines.chain(reached.map(|lines| format!("{REACHED} {lines}\n")));
         let lines = lines.collect::<String>().into_bytes();
         let mut memory = Vec::new();
         if let Some(lent) = &self.memory {

@@ -108,9 +108,8 @@ pub fn carried_out(
         }
     }
     Answer {
-        lines,
         memory: Some(output.memory),
-        unbound: Vec::new(),
+        ..Answer::of_lines(lines)
     }
 }
 

@@ -79,7 +79,7 @@ fn ask_largest_file(cases: &mut FileCases) {
     cases.ask_file(file.bytes());
 }
 
-fn many_batches(cases: &mut FileCases, direction: Direction, batches: usize) -> MadeFile {
+pub fn many_batches(cases: &mut FileCases, direction: Direction, batches: usize) -> MadeFile {
     let shapes = (0..batches).map(|_| BatchShape {
         kind: cases.random.pick(&BATCH_KINDS),
         payments: 1,
@@ -161,7 +161,12 @@ fn large_mixes() -> Vec<Vec<Movement>> {
 
 /// A file of so many batches whose payments all have the largest amount, but
 /// for the last.
-fn large_sum(cases: &mut FileCases, direction: Direction, batches: usize, last: u64) -> MadeFile {
+pub fn large_sum(
+    cases: &mut FileCases,
+    direction: Direction,
+    batches: usize,
+    last: u64,
+) -> MadeFile {
     let kind = cases.random.pick(&BATCH_KINDS);
     let mut left = LARGEST_PAYMENTS as usize + 1;
     let mut shapes = Vec::new();

@@ -74,7 +74,7 @@ impl FileCases<'_> {
         line.iter().copied().cycle().take(length).collect()
     }
 
-    fn damaged_line(&mut self, file: &MadeFile, at: usize) -> Vec<u8> {
+    pub fn damaged_line(&mut self, file: &MadeFile, at: usize) -> Vec<u8> {
         let lines = vec![file.lines[at].clone()];
         let mut alone = MadeFile { lines, ..*file };
         if self.random.coin() {

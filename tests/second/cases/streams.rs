@@ -1,6 +1,7 @@
 //! How the requests are made: one long stream about digit strings and records
-//! with malformed requests among them, streams about files, and short streams
-//! that are cut in the middle of a request.
+//! with malformed requests among them, streams about files, about files in parts
+//! and about the writer, and short streams that are cut in the middle of a
+//! request.
 
 use std::iter;
 
@@ -29,6 +30,9 @@ const FILE_STREAMS: u64 = 16;
 /// And so for the streams about the writer.
 const FIRST_WRITER_SEED: u64 = 200;
 const WRITER_STREAMS: u64 = 9;
+/// And for those about files in parts.
+const FIRST_PART_SEED: u64 = 300;
+const PART_STREAMS: u64 = 4;
 /// How often each good request stands among those about files.
 const GOOD_REQUESTS_AMONG_FILES: usize = 10;
 
@@ -58,8 +62,9 @@ pub fn accepted_barcodes() -> Vec<Vec<u8>> {
 /// a seeded fault is mostly caught in the first about its topic.
 pub fn streams() -> impl Iterator<Item = Stream> {
     let cut = iter::once_with(cut_streams).flatten();
-    let whole = string_streams().chain(file_streams());
-    whole.chain(writer_streams()).chain(cut)
+    let files = file_streams().chain(part_streams());
+    let whole = string_streams().chain(files).chain(writer_streams());
+    whole.chain(cut)
 }
 
 /// The one stream about digit strings and records alone.
@@ -92,6 +97,22 @@ pub fn file_streams() -> impl Iterator<Item = Stream> {
     let pairs = iter::once_with(stream_of_pairs_of_flaws);
     let others = seeds.map(stream_of_files);
     first.chain(once).chain(pairs).chain(others)
+}
+
+/// The streams about files in parts, the first of them with the cuttings that
+/// are made once.
+pub fn part_streams() -> impl Iterator<Item = Stream> {
+    (0..PART_STREAMS).map(|index| {
+        let mut random = Random::with_seed(FIRST_PART_SEED + index);
+        let mut cases = FileCases::new(&mut random);
+        if index == 0 {
+            cases.ask_cuts_made_once();
+        }
+        cases.ask_files_in_parts();
+        let mut requests = cases.requests;
+        requests.extend(good_requests());
+        Stream::shuffled(requests, &mut random)
+    })
 }
 
 fn stream_of_files(seed: u64) -> Stream {

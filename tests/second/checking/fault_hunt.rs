@@ -49,6 +49,7 @@ fn catch(command: &[String], topic: Topic, faults: Vec<(String, Fault)>) -> Resu
     let streams: Box<dyn Iterator<Item = Stream>> = match topic {
         Topic::StringsAndRecords => Box::new(streams::string_streams()),
         Topic::Files => Box::new(streams::file_streams()),
+        Topic::Parts => Box::new(streams::part_streams()),
         Topic::Writer => Box::new(streams::writer_streams()),
     };
     for stream in streams {

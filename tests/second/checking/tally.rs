@@ -8,45 +8,46 @@ use crate::asking::probe::{Call, Op, Request};
 use crate::asking::replies::MALFORMED;
 use crate::checking::due_tally::DueTally;
 use crate::checking::movement_tally::MovementTally;
+use crate::checking::part_tally::PartTally;
 use crate::checking::script_tally::ScriptTally;
 use crate::paper::answers::{Answer, Verdict};
 
 /// One column for each op, and one for all that name no op.
-const COLUMNS: [&str; 8] = ["B", "D", "C", "W", "F", "L", "P", "other"];
-const NO_OP: &str = COLUMNS[7];
+const COLUMNS: [&str; 9] = ["B", "D", "C", "W", "F", "L", "P", "T", "other"];
+const NO_OP: &str = COLUMNS[8];
 const REQUESTS: &str = "requests";
 const ACCEPTED: &str = "OK";
 const MALFORMED_REQUEST: &str = "malformed";
 const FIELD_CHECK: u32 = 42;
 
 /// Each answer with the columns in which it can occur. Reading a file can give
-/// every number from 1 to 23, in a whole file and in single-line calls. No
-/// request is long enough for the writer to give 23 or 25.
+/// every number from 1 to 23, in a whole file, in single-line calls and in parts.
+/// No request is long enough for the writer to give 23 or 25.
 const ANSWERS: [(&str, &[&str]); 34] = [
-    (ACCEPTED, &["B", "D", "C", "W", "F", "L", "P"]),
-    ("1", &["C", "F", "L"]),
-    ("2", &["F", "L"]),
-    ("3", &["F", "L"]),
-    ("4", &["C", "W", "F", "L", "P"]),
-    ("5", &["F", "L"]),
-    ("6", &["C", "F", "L"]),
-    ("7", &["F", "L"]),
-    ("8", &["C", "W", "F", "L", "P"]),
-    ("9", &["F", "L"]),
-    ("10", &["F", "L"]),
-    ("11", &["C", "F", "L", "P"]),
-    ("12", &["C", "W", "F", "L", "P"]),
-    ("13", &["C", "W", "F", "L", "P"]),
-    ("14", &["C", "W", "F", "L", "P"]),
-    ("15", &["C", "W", "F", "L", "P"]),
-    ("16", &["F", "L", "P"]),
-    ("17", &["F", "L", "P"]),
-    ("18", &["F", "L", "P"]),
-    ("19", &["F", "L", "P"]),
-    ("20", &["F", "L", "P"]),
-    ("21", &["F", "L"]),
-    ("22", &["F", "L"]),
-    ("23", &["F", "L"]),
+    (ACCEPTED, &["B", "D", "C", "W", "F", "L", "P", "T"]),
+    ("1", &["C", "F", "L", "T"]),
+    ("2", &["F", "L", "T"]),
+    ("3", &["F", "L", "T"]),
+    ("4", &["C", "W", "F", "L", "P", "T"]),
+    ("5", &["F", "L", "T"]),
+    ("6", &["C", "F", "L", "T"]),
+    ("7", &["F", "L", "T"]),
+    ("8", &["C", "W", "F", "L", "P", "T"]),
+    ("9", &["F", "L", "T"]),
+    ("10", &["F", "L", "T"]),
+    ("11", &["C", "F", "L", "P", "T"]),
+    ("12", &["C", "W", "F", "L", "P", "T"]),
+    ("13", &["C", "W", "F", "L", "P", "T"]),
+    ("14", &["C", "W", "F", "L", "P", "T"]),
+    ("15", &["C", "W", "F", "L", "P", "T"]),
+    ("16", &["F", "L", "P", "T"]),
+    ("17", &["F", "L", "P", "T"]),
+    ("18", &["F", "L", "P", "T"]),
+    ("19", &["F", "L", "P", "T"]),
+    ("20", &["F", "L", "P", "T"]),
+    ("21", &["F", "L", "T"]),
+    ("22", &["F", "L", "T"]),
+    ("23", &["F", "L", "T"]),
     ("40", &["B", "D"]),
     ("41", &["B", "D"]),
     ("42 at 10", &["D"]),
@@ -55,18 +56,19 @@ const ANSWERS: [(&str, &[&str]); 34] = [
     ("43", &["B", "D"]),
     ("44", &["B", "D"]),
     ("50", &["B", "D", "W", "P"]),
-    ("51", &["P"]),
+    ("51", &["P", "T"]),
     (MALFORMED_REQUEST, &COLUMNS),
 ];
 
 #[derive(Default)]
 pub struct Tally {
-    /// By answer and column. A request of single-line calls has several answers.
+    /// By answer and column. A request of several calls has as many answers.
     seen: BTreeMap<(String, &'static str), usize>,
     requests: BTreeMap<&'static str, usize>,
     dues: DueTally,
     movements: MovementTally,
     scripts: ScriptTally,
+    parts: PartTally,
 }
 
 impl Tally {
@@ -87,6 +89,7 @@ impl Tally {
                 self.movements.count_lines(&calls, answer);
             }
             Some(Call::WriteFile { room }) => self.scripts.count(&request.script(), room),
+            Some(Call::CheckParts) => self.parts.count(&request.part_calls(), answer),
             _ => {}
         }
     }
@@ -119,6 +122,7 @@ impl Tally {
         gaps.extend(self.dues.gaps());
         gaps.extend(self.movements.gaps());
         gaps.extend(self.scripts.gaps());
+        gaps.extend(self.parts.gaps());
         gaps
     }
 }
@@ -172,6 +176,7 @@ impl fmt::Display for Tally {
             self.dues.summary(),
             self.movements.summary(),
             self.scripts.summary(),
+            self.parts.summary(),
         ];
         write!(out, "\n{}", summaries.join("\n"))
     }

@@ -6,6 +6,7 @@ use crate::asking::probe::{Call, Request};
 use crate::asking::replies::Reply;
 use crate::asking::writer_script::Step;
 use crate::paper::lines::LINE_BYTES;
+use crate::paper::parts::PartCall;
 use crate::paper::writer_calls::WriterCall;
 
 /// Longer payloads and memories are shown only in part.
@@ -61,6 +62,7 @@ fn show_request(out: &mut fmt::Formatter, request: &Request) -> fmt::Result {
             show_lines(out, calls.into_iter())
         }
         Some(Call::WriteFile { .. }) => show_script(out, request),
+        Some(Call::CheckParts) => show_parts(out, request),
         _ => writeln!(out, "  payload  {}", shown(&request.payload)),
     }
 }
@@ -94,6 +96,29 @@ fn show_call(out: &mut fmt::Formatter, call: &WriterCall) -> fmt::Result {
         let kind = char::from(record.kind.code());
         writeln!(out, "    {kind} {:?}", record.values.numbers)?;
         writeln!(out, "      {}", shown(&record.values.text))?;
+    }
+    Ok(())
+}
+
+/// Each call on a line of its own.
+fn show_parts(out: &mut fmt::Formatter, request: &Request) -> fmt::Result {
+    let calls = match request.part_calls() {
+        Ok(calls) => calls,
+        Err(misfit) => {
+            writeln!(out, "  no calls: {misfit:?}")?;
+            return writeln!(out, "  payload  {}", shown(&request.payload));
+        }
+    };
+    for (before, call) in calls.iter().take(LINES_SHOWN).enumerate() {
+        let call = match call {
+            PartCall::Part(bytes) => shown(bytes),
+            PartCall::End => "the end".to_string(),
+        };
+        writeln!(out, "  {:>7}  {call}", before + 1)?;
+    }
+    let left_out = calls.len().saturating_sub(LINES_SHOWN);
+    if left_out > 0 {
+        writeln!(out, "  and {left_out} more calls")?;
     }
     Ok(())
 }

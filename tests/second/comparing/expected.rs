@@ -5,6 +5,7 @@ use crate::asking::writer_script::{carried_out, Step};
 use crate::paper::answers::{Answer, AnswerLine};
 use crate::paper::digit_strings::{Conversion, DigitRules};
 use crate::paper::file_reader;
+use crate::paper::parts::{PartCall, PartChecker};
 use crate::paper::record_kinds::Subject;
 use crate::paper::records::{Records, Values};
 use crate::paper::writer::Writer;
@@ -18,6 +19,7 @@ pub trait Answers {
     fn check_file(&self, bytes: &[u8]) -> AnswerLine;
     fn check_lines(&self, calls: &[&[u8]]) -> Vec<AnswerLine>;
     fn write_file(&self, script: &[Step], room: usize) -> Answer;
+    fn check_parts(&self, calls: &[PartCall]) -> Answer;
 }
 
 impl Answers for Paper {
@@ -44,6 +46,12 @@ impl Answers for Paper {
     fn write_file(&self, script: &[Step], room: usize) -> Answer {
         let mut writer = Writer::by(*self);
         carried_out(script, room, |call, output| writer.call(call, output))
+    }
+
+    fn check_parts(&self, calls: &[PartCall]) -> Answer {
+        let mut checker = PartChecker::by(*self);
+        let lines = calls.iter().map(|call| checker.call(*call)).collect();
+        Answer::of_parts(lines, checker.accepted_lines())
     }
 }
 
@@ -73,6 +81,7 @@ fn well_formed_answer(who: &impl Answers, request: &Request) -> Option<Answer> {
         Call::CheckFile => Answer::of_lines(vec![who.check_file(payload)]),
         Call::CheckLines => Answer::of_lines(who.check_lines(&request.line_calls()?)),
         Call::WriteFile { room } => who.write_file(&request.script().ok()?, room),
+        Call::CheckParts => who.check_parts(&request.part_calls().ok()?),
     };
     Some(answer)
 }

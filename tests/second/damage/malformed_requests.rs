@@ -17,7 +17,12 @@ const KINDS_TO_TRY: &[u8] = b"AJ0134z";
 const HEADERS_WITH_SEVERAL_CHANGES: usize = 200;
 const MOST_HEADER_CHANGES: usize = 3;
 const LARGEST_SIX_DIGITS: usize = 999_999;
-const ROOM_UNUSED: [Op; 3] = [Op::ReadRecord, Op::CheckFile, Op::CheckLines];
+const ROOM_UNUSED: [Op; 4] = [
+    Op::ReadRecord,
+    Op::CheckFile,
+    Op::CheckLines,
+    Op::CheckParts,
+];
 
 /// The few among them that stay well-formed are cases as good as any.
 pub fn malformed_requests() -> Vec<Request> {

@@ -10,6 +10,7 @@ pub mod file_trials;
 pub mod guarded_digits;
 pub mod harmless_changes;
 pub mod line_flaws;
+pub mod malformed_parts;
 pub mod malformed_requests;
 pub mod malformed_scripts;
 pub mod other_bytes;

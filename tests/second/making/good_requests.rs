@@ -1,23 +1,26 @@
 //! One good request of each op.
 
 use crate::asking::probe::{self, Op, Request, UNUSED};
-use crate::asking::writer_script;
+use crate::asking::{part_calls, writer_script};
+use crate::making::cuttings::in_lengths;
 use crate::making::good_calls::{calls_of, small_file, steps};
 use crate::making::plain_files;
 use crate::making::random::Random;
 use crate::paper::examples::{PAPER_BARCODE, PAPER_LINE};
 use crate::paper::file_state::BatchKind;
 use crate::paper::lines::{LINE_BYTES, RECORD_BYTES};
+use crate::paper::parts::PartCall;
 use crate::paper::record_kinds::{Direction, RecordKind, Subject};
 use crate::paper::records::Values;
 
 const GOOD_SCRIPT_SEED: u64 = 11;
 const ROOM: usize = 50;
+const PART_BYTES: usize = 150;
 /// A file trailer, but for the blanks behind it.
 const FILE_TRAILER: &[u8] = b"23799999         000001000006000000";
 
 /// In the order of the ops.
-pub fn good_requests() -> [Request; 7] {
+pub fn good_requests() -> [Request; 8] {
     let mut record = FILE_TRAILER.to_vec();
     record.resize(RECORD_BYTES, b' ');
     let kind = RecordKind::FileTrailer;
@@ -26,6 +29,7 @@ pub fn good_requests() -> [Request; 7] {
     let values = Values::of_record(kind, &record).to_payload();
     let lines = plain_files::one_payment();
     let calls = probe::payload_of_calls(lines.chunks(LINE_BYTES));
+    let parts = in_parts(&lines);
     let (script, file) = good_script();
     [
         Request::new(Op::BarcodeToLine, UNUSED, ROOM, PAPER_BARCODE.to_vec()),
@@ -35,7 +39,15 @@ pub fn good_requests() -> [Request; 7] {
         Request::new(Op::CheckFile, UNUSED, 0, file),
         Request::new(Op::CheckLines, UNUSED, 0, calls),
         script,
+        Request::new(Op::CheckParts, UNUSED, 0, parts),
     ]
+}
+
+/// In parts of half a line and a bit, and then the end.
+fn in_parts(file: &[u8]) -> Vec<u8> {
+    let parts = in_lengths(file, PART_BYTES).into_iter();
+    let calls = parts.map(PartCall::Part).chain([PartCall::End]);
+    part_calls::to_payload(&calls.collect::<Vec<PartCall>>())
 }
 
 /// A script that closes a file, and that file.

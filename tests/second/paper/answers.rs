@@ -63,6 +63,8 @@ impl fmt::Display for AnswerLine {
 pub struct Answer {
     /// One line, but for a sequence of calls.
     pub lines: Vec<AnswerLine>,
+    /// Of a file in parts, how many of its lines were accepted.
+    pub accepted_lines: Option<u64>,
     /// The lent memory after the call, or the text of the record that was read.
     pub memory: Option<Vec<u8>>,
     /// Parts of the memory that may hold anything.
@@ -73,8 +75,16 @@ impl Answer {
     pub fn of_lines(lines: Vec<AnswerLine>) -> Answer {
         Answer {
             lines,
+            accepted_lines: None,
             memory: None,
             unbound: Vec::new(),
+        }
+    }
+
+    pub fn of_parts(lines: Vec<AnswerLine>, accepted_lines: u64) -> Answer {
+        Answer {
+            accepted_lines: Some(accepted_lines),
+            ..Answer::of_lines(lines)
         }
     }
 

@@ -1,5 +1,6 @@
 //! The papers read again: document 01, with requests 3 and 13 of document 02 in
-//! it. To be laid beside document 01, section by section:
+//! it, and request 1, which adds calls of its own. To be laid beside document 01,
+//! section by section:
 //!
 //! | section of document 01 | here |
 //! |---|---|
@@ -12,6 +13,7 @@
 //! | .. the writer's calls | `writer_calls`, `writer_order`, `writer_rules`, `writer_record_rules`, `writer_fill`, `writer` |
 //! | Guarded places | `guarded_places` |
 //! | Table of proved examples | `examples` |
+//! | (document 02) request 1 | `parts` |
 //!
 //! A rule is a method of a trait, and its body is what the paper says. `Paper`
 //! takes every rule as it stands. That a rule can be replaced from outside is
@@ -32,6 +34,7 @@ pub mod line_order;
 pub mod line_rules;
 pub mod lines;
 pub mod numbers;
+pub mod parts;
 pub mod payments;
 pub mod places;
 pub mod record_kinds;

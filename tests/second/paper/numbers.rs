@@ -39,5 +39,5 @@ pub const WRONG_CURRENCY: u32 = 43;
 pub const WRONG_GENERAL_CHECK: u32 = 44;
 
 pub const OUTPUT_TOO_SHORT: u32 = 50;
-/// Of the writer's calls alone.
+/// Of the writer's calls, and of those behind the end of a file in parts.
 pub const OUT_OF_TURN: u32 = 51;

@@ -60,9 +60,9 @@ pub trait Records: RecordRules {
             numbers: fields.iter().map(|f| self.number_in(*f, bytes)).collect(),
         };
         Answer {
-            lines: vec![line],
             unbound: numbers.map(|field| field.range()).collect(),
             memory: Some(draft.bytes),
+            ..Answer::of_lines(vec![line])
         }
     }
 

@@ -1,6 +1,7 @@
 //! What a fault makes of a request.
 
 use super::faults::Fault;
+use super::parts::SownParts;
 use super::writer::SownWriter;
 use super::Sown;
 use crate::asking::probe::Request;
@@ -8,6 +9,7 @@ use crate::asking::writer_script::{carried_out, Step};
 use crate::comparing::expected::{answer_by, Answers};
 use crate::paper::answers::{Answer, AnswerLine};
 use crate::paper::digit_strings::{Conversion, DigitRules};
+use crate::paper::parts::PartCall;
 use crate::paper::record_kinds::Subject;
 use crate::paper::records::{Records, Values};
 
@@ -45,5 +47,11 @@ impl Answers for Sown {
     fn write_file(&self, script: &[Step], room: usize) -> Answer {
         let mut writer = SownWriter::with(*self);
         carried_out(script, room, |call, output| writer.call(call, output))
+    }
+
+    fn check_parts(&self, calls: &[PartCall]) -> Answer {
+        let mut checker = SownParts::with(*self);
+        let lines = calls.iter().map(|call| checker.call(*call)).collect();
+        Answer::of_parts(lines, checker.accepted_lines())
     }
 }

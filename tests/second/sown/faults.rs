@@ -4,6 +4,7 @@
 
 use super::limits::{LimitFault, LIMIT_FAULTS};
 use super::names::hyphenated;
+use super::part_faults::{PartFault, PART_FAULTS};
 use super::totals::{TotalsFault, TOTALS_FAULTS};
 use super::writer_faults::{of_the_writer, WriterFault, WRITER_FAULTS};
 
@@ -100,6 +101,7 @@ pub enum Fault {
     /// Of the reader, and then the same of the writer.
     Totals(TotalsFault),
     Limit(LimitFault),
+    Parts(PartFault),
     Writer(WriterFault),
     WriterTotals(TotalsFault),
     WriterLimit(LimitFault),
@@ -280,10 +282,16 @@ const NAMED_FILE_FAULTS: [(&str, Fault); 52] = [
 pub enum Topic {
     StringsAndRecords,
     Files,
+    Parts,
     Writer,
 }
 
-pub const TOPICS: [Topic; 3] = [Topic::StringsAndRecords, Topic::Files, Topic::Writer];
+pub const TOPICS: [Topic; 4] = [
+    Topic::StringsAndRecords,
+    Topic::Files,
+    Topic::Parts,
+    Topic::Writer,
+];
 
 /// All faults about a topic with their names.
 pub fn faults_about(topic: Topic) -> Vec<(String, Fault)> {
@@ -291,13 +299,17 @@ pub fn faults_about(topic: Topic) -> Vec<(String, Fault)> {
     let mut faults = match topic {
         Topic::StringsAndRecords => named(&NAMED_FAULTS),
         Topic::Files => named(&NAMED_FILE_FAULTS),
+        Topic::Parts => {
+            let faults = PART_FAULTS.iter();
+            faults.map(|f| (f.name(), Fault::Parts(*f))).collect()
+        }
         Topic::Writer => {
             let faults = WRITER_FAULTS.iter();
             faults.map(|f| (f.name(), Fault::Writer(*f))).collect()
         }
     };
     match topic {
-        Topic::StringsAndRecords => {}
+        Topic::StringsAndRecords | Topic::Parts => {}
         Topic::Files => faults.extend(totals.map(|f| (hyphenated(f), Fault::Totals(*f)))),
         Topic::Writer => {
             faults.extend(totals.map(|f| (of_the_writer(hyphenated(f)), Fault::WriterTotals(*f))));

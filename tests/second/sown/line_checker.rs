@@ -58,7 +58,7 @@ impl Sown {
     }
 
     /// With this fault, the numbers that document 01 had before request 13.
-    fn with_old_numbers(self, fault: Fault, mut line: AnswerLine) -> AnswerLine {
+    pub fn with_old_numbers(self, fault: Fault, mut line: AnswerLine) -> AnswerLine {
         if let (true, [batches, records, live @ .., payments, cents]) =
             (self.has(fault), line.numbers.as_slice())
         {

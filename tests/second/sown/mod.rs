@@ -1,7 +1,7 @@
 //! Mistakes sown in the rules of the papers, one at a time. Each rule of `paper`
 //! is a method of a trait; here the same traits are taken with the one method
 //! that a fault is about replaced. What a fault does to the state between two
-//! calls, or to the memory behind one, is done around the paper's own checker
+//! calls, or to the memory behind one, is done around the paper's own checkers
 //! and writer. No model knows of its faults.
 
 pub mod answers;
@@ -15,6 +15,9 @@ mod line_checker;
 mod line_rules;
 mod names;
 mod order;
+mod part_faults;
+mod part_slips;
+mod parts;
 mod records;
 mod totals;
 mod writer;
@@ -28,6 +31,7 @@ pub use due_factors::mistaken_factors;
 
 use faults::Fault;
 use limits::LimitFault;
+use part_faults::PartFault;
 use totals::TotalsFault;
 use writer_faults::WriterFault;
 
@@ -44,6 +48,14 @@ impl Sown {
 
     fn has(self, fault: Fault) -> bool {
         self.fault == fault
+    }
+
+    /// The fault, if it is one of the checker in parts.
+    fn part_fault(self) -> Option<PartFault> {
+        match self.fault {
+            Fault::Parts(fault) => Some(fault),
+            _ => None,
+        }
     }
 
     /// The fault, if it is one of the writer.

@@ -3,6 +3,8 @@ use mathlib.Core.Path.{_≡_, refl, subst}
 use mathlib.Core.Bool.{Bool, _&&_}
 use mathlib.Core.List.{List, [], _∷_, _++_}
 use Prim.Native.Nat.{ℕ, _≤_}
+use native.Mathlib.Omega.{arith}
+use borrow.Author.Tests.{le-leb}
 use lib.Dec.{T, leb, leb→le}
 use Rattle.answer.specs.Rules.{Rule, rule, noLine, Broken}
 use Rattle.answer.specs.declared.Refusal.{Refusal}
@@ -24,32 +26,46 @@ use Rattle.checker.specs.declared.order.Reading.{Reading}
 use Rattle.checker.specs.declared.order.Reading.the-variants.{Line, Nothing}
 use Rattle.checker.specs.declared.Checker.{Checker}
 
--- the highest number that a line is refused with
+-- the lowest and the highest number that a line is refused with, and the lowest that a whole line is before the file trailer
+abbrev pub firstNumber : ℕ
+firstNumber = 1
+
 abbrev pub lastNumber : ℕ
 lastNumber = 23
 
-abbrev pub tabled : ℕ → Bool
-tabled n = leb 1 n && leb n lastNumber
+abbrev pub byteNumber : ℕ
+byteNumber = 4
 
--- each of these rules names such a number, and no line
-pub data Listed : List Rule → Type 0 where
-  none : Listed []
-  more : {n p : ℕ} {kept : Bool} {rs : List Rule} → T (tabled n) → Listed rs → Listed (rule n p kept ∷ rs)
+abbrev pub tabled : ℕ → ℕ → Bool
+tabled low n = leb low n && leb n lastNumber
 
-join : {xs ys : List Rule} → Listed xs → Listed ys → Listed (xs ++ ys)
+-- each of these rules names a number from a lowest one up to the highest, and no line
+pub data Listed (low : ℕ) : List Rule → Type 0 where
+  none : Listed low []
+  more : {n p : ℕ} {kept : Bool} {rs : List Rule} → T (tabled low n) → Listed low rs → Listed low (rule n p kept ∷ rs)
+
+join : {low : ℕ} {xs ys : List Rule} → Listed low xs → Listed low ys → Listed low (xs ++ ys)
 join none b = b
 join (more t a) b = more t (join a b)
 
+-- numbers from a higher one on are numbers from a lower one on
+lower : {rs : List Rule} → Listed byteNumber rs → Listed firstNumber rs
+lower none = none
+lower (more {n} t a) = let k = both (leb byteNumber n) (leb n lastNumber) t in more (within n (leb→le byteNumber n (k .0)) (leb→le n lastNumber (k .1))) (lower a)
+  where
+    within : (n : ℕ) → byteNumber ≤ n → n ≤ lastNumber → T (tabled firstNumber n)
+    within n h l = rw (le-leb firstNumber n (omega arith), le-leb n lastNumber l) tt
+
 -- ---- the rules of a line are listed
 
-one : {n p : ℕ} {kept : Bool} → T (tabled n) → Listed (rule n p kept ∷ [])
+one : {n p : ℕ} {kept : Bool} → T (tabled byteNumber n) → Listed byteNumber (rule n p kept ∷ [])
 one t = more t none
 
-blanks : (d : Direction) (p : Part) → Listed (blankIn d p)
+blanks : (d : Direction) (p : Part) → Listed byteNumber (blankIn d p)
 blanks Remittance p = one tt
 blanks Return p = none
 
-kind : (k : Kind) (p : Part) → Listed (means k .rules p)
+kind : (k : Kind) (p : Part) → Listed byteNumber (means k .rules p)
 kind N p = one tt
 kind Id p = one tt
 kind Text p = one tt
@@ -67,17 +83,17 @@ kind Barcode p = more tt (one tt)
 kind (RecordType b) p = one tt
 kind (Segment b) p = one tt
 
-fields : (fs : List Field) (d : Direction) (rec : List ℕ) → Listed (rulesOf fs d rec)
+fields : (fs : List Field) (d : Direction) (rec : List ℕ) → Listed byteNumber (rulesOf fs d rec)
 unfolding rulesOf
 fields [] d rec = none
 fields (f ∷ fs) d rec = join (kind (f .kind) (partOf f d rec)) (fields fs d rec)
 
-house : (h : House) (rec : List ℕ) → Listed (houseBy h rec)
+house : (h : House) (rec : List ℕ) → Listed byteNumber (houseBy h rec)
 unfolding boletoRules
 house NoRules rec = none
 house RulesOfJ rec = more tt (more tt (more tt (one tt)))
 
-of-type : (t : LineType) (r : Record) (s : Checker) (rec : List ℕ) → Listed (rulesOfType t r s rec)
+of-type : (t : LineType) (r : Record) (s : Checker) (rec : List ℕ) → Listed byteNumber (rulesOfType t r s rec)
 unfolding rulesOfType
 of-type FileFirst r s rec = more tt (more tt (fields (behind typePlace r) (s .dir) rec))
 of-type BatchFirst r s rec = more tt (more tt (more tt (fields (behind typePlace r) (s .dir) rec)))
@@ -96,36 +112,41 @@ of-type FileLast r s rec =
     (more tt (fields (between (fileBatches .to) (fileRecords .to) r) (s .dir) rec)))
     (more tt (fields (behind (fileRecords .to) r) (s .dir) rec))
 
-read : (r : Record) (s : Checker) (rec : List ℕ) → Listed (rulesAs r s rec)
+read : (r : Record) (s : Checker) (rec : List ℕ) → Listed byteNumber (rulesAs r s rec)
 unfolding rulesAs
 read r s rec = join (of-type (shapeOf r .line) r s rec) (house (shapeOf r .house) rec)
 
-reading : (d : Reading) (s : Checker) (rec : List ℕ) → Listed (readingRules d s rec)
+reading : (d : Reading) (s : Checker) (rec : List ℕ) → Listed byteNumber (readingRules d s rec)
 reading (Line r) s rec = read r s rec
 reading Nothing s rec = none
 
-pub line-listed : (s : Checker) (line : List ℕ) → Listed (rulesOfLine s line)
-unfolding rulesOfLine lineRules typeRules
-line-listed s line = more tt (more tt (more tt (more tt (more tt (more tt (reading (lineIs s (recordIn line)) s (recordIn line)))))))
+-- those of a whole line before the file trailer, and all
+pub whole-listed : (s : Checker) (line : List ℕ) → Listed byteNumber (lineRules s line)
+unfolding lineRules typeRules
+whole-listed s line = more tt (more tt (more tt (more tt (reading (lineIs s (recordIn line)) s (recordIn line)))))
+
+pub line-listed : (s : Checker) (line : List ℕ) → Listed firstNumber (rulesOfLine s line)
+unfolding rulesOfLine
+line-listed s line = more tt (more tt (lower (whole-listed s line)))
 
 -- ---- what that says of a broken one
 
-pub record InTable (r : Refusal) : Type 0 where
+pub record InTable (lowest : ℕ) (r : Refusal) : Type 0 where
   pub on-no-line : r .line ≡ noLine
-  pub low : 1 ≤ r .number
+  pub low : lowest ≤ r .number
   pub high : r .number ≤ lastNumber
 
-in-front : {r : Rule} {rs : List Rule} → Listed (r ∷ rs) → InTable (r .refused)
-in-front (more {n} t a) =
-    let k = both (leb 1 n) (leb n lastNumber) t in
-    record { on-no-line = refl; low = leb→le 1 n (k .0); high = leb→le n lastNumber (k .1) }
+in-front : {low : ℕ} {r : Rule} {rs : List Rule} → Listed low (r ∷ rs) → InTable low (r .refused)
+in-front {low} (more {n} t a) =
+    let k = both (leb low n) (leb n lastNumber) t in
+    record { on-no-line = refl; low = leb→le low n (k .0); high = leb→le n lastNumber (k .1) }
 
-without-front : {r : Rule} {rs : List Rule} → Listed (r ∷ rs) → Listed rs
+without-front : {low : ℕ} {r : Rule} {rs : List Rule} → Listed low (r ∷ rs) → Listed low rs
 without-front (more t a) = a
 
-inside : (xs : List Rule) (r : Rule) (ys : List Rule) → Listed (xs ++ r ∷ ys) → InTable (r .refused)
+inside : {low : ℕ} (xs : List Rule) (r : Rule) (ys : List Rule) → Listed low (xs ++ r ∷ ys) → InTable low (r .refused)
 inside [] r ys a = in-front a
 inside (x ∷ xs) r ys a = inside xs r ys (without-front a)
 
-pub broken-listed : {rs : List Rule} {r : Refusal} → Listed rs → Broken rs r → InTable r
-broken-listed a b = inside (b .earlier) _ (b .later) (subst Listed (b .are) a)
+pub broken-listed : {low : ℕ} {rs : List Rule} {r : Refusal} → Listed low rs → Broken rs r → InTable low r
+broken-listed {low} a b = inside (b .earlier) _ (b .later) (subst (Listed low) (b .are) a)

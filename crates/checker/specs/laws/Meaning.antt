@@ -3,7 +3,7 @@ use mathlib.Core.Path.{_≡_, refl, sym, ap, _∙_, subst}
 use mathlib.Core.Logic.{_↔_}
 use mathlib.Core.Bool.{Bool, true, false, not, cond}
 use mathlib.Core.List.{List}
-use Prim.Native.Nat.{ℕ}
+use Prim.Native.Nat.{ℕ, _≤_}
 use borrow.Author.Tests.{eqb-true, eq-eqb}
 use lib.ListN.{length}
 use Rattle.answer.specs.Rules.{noLine, refusal, refusedAs, firstBroken, AllKept, Broken, onLine}
@@ -25,7 +25,7 @@ use Rattle.checker.specs.declared.order.Reading.{Reading}
 use Rattle.checker.specs.declared.order.Reading.the-variants.{Line, Nothing}
 use Rattle.checker.specs.declared.Checker.{Checker}
 use Rattle.checker.specs.declared.Stepped.{Stepped}
-use Rattle.checker.specs.laws.Listed.{line-listed, broken-listed}
+use Rattle.checker.specs.laws.Listed.{byteNumber, whole-listed, line-listed, broken-listed}
 use Rattle.checker.specs.laws.Edges.{Among, among-by, not-ended}
 
 -- the line breaks this refusal's rule and none before it, and is the line that the refusal names
@@ -97,6 +97,13 @@ module _ (s : Checker) (line : List ℕ) (ok : sound s ≡ true) where
   -- refused exactly if that rule is broken and every earlier one is kept, on the line that is next
   pub line-refused : (r : Refusal) → stepOf s line .answer ≡ Refused r ↔ Breaks s line r
   line-refused r = (refused-breaks r, breaks-refused r)
+
+-- a whole line before the file trailer breaks none of the first two rules
+pub whole-number : (s : Checker) (line : List ℕ) (r : Refusal) → length line ≡ lineBytes → ended (s .phase) ≡ false → Breaks s line r → byteNumber ≤ r .number
+unfolding rulesOfLine firstBroken
+whole-number s line r long going b =
+    let first = rw (going, eq-eqb (length line) lineBytes long) at (broken-refused (rulesOfLine s line) _ (b .broken)) in
+    broken-listed (whole-listed s line) (refused-broken (lineRules s line) _ first) .low
 
 -- ---- the state
 

@@ -1,14 +1,10 @@
 -- How much is read at once. Assumes nothing.
 use Prim.Native.Nat.{ℕ, _≤_}
 use Rattle.cnab240.specs.declared.input.Input.{Input}
-use Rattle.cnab240.specs.declared.input.Input.the-variants.{Full, Ended, Failed}
+use Rattle.cnab240.specs.declared.input.Input.the-variants.{Part, Ended, Failed}
 
--- 270 lines of 242 bytes
-abbrev pub bufferBytes : ℕ
-bufferBytes = 65340
-
--- where the input ends, it has filled no more than there is
+-- a part has no more bytes than there is room for
 abbrev pub Within : Input → ℕ → Type 0
-Within Full n = Unit {0}
-Within (Ended k) n = k ≤ n
+Within (Part k) n = k ≤ n
+Within Ended n = Unit {0}
 Within Failed n = Unit {0}

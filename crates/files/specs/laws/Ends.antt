@@ -9,10 +9,10 @@ use Rattle.answer.specs.declared.Refusal.{Refusal}
 use Rattle.answer.specs.declared.Answer.{Answer}
 use Rattle.answer.specs.declared.Answer.the-variants.{Accepted, Refused}
 use Rattle.checker.specs.Order.{ended}
-use Rattle.checker.specs.Machine.{lineOf, stepped, stepOf}
-use Rattle.files.specs.File.{linesOf, unless, steps, run, endOf}
+use Rattle.checker.specs.Machine.{lineOf, stepOf}
+use Rattle.files.specs.File.{unless, steps, endOf}
 use Rattle.checker.specs.Calls.{Reached, after-line}
-use Rattle.files.specs.declared.Outcome.the-variants as outcome
+use Rattle.files.specs.declared.whole.Outcome.the-variants as outcome
 use Rattle.checker.specs.declared.Checker.{Checker}
 use Rattle.checker.specs.laws.Reached.{reached}
 
@@ -24,13 +24,6 @@ steps-reached {s} (l ∷ ls) c = go (stepOf s l .answer) (steps-reached ls (afte
     go : (a : Answer) → Reached (steps (stepOf s l .state) ls .state) → Reached (unless a (steps (stepOf s l .state) ls) (stepOf s l) .state)
     go Accepted on = on
     go (Refused r) on = after-line l c
-
-pub run-reached : {s : Checker} (bytes : List ℕ) → Reached s → Reached (run s bytes .state)
-run-reached {s} bytes c = go (steps s (linesOf bytes) .answer)
-  where
-    go : (a : Answer) → Reached (unless a (steps s (linesOf bytes)) (stepped s (steps s (linesOf bytes) .answer)) .state)
-    go Accepted = steps-reached (linesOf bytes) c
-    go (Refused r) = c
 
 -- no end of one is answered by 51
 module _ {s : Checker} (c : Reached s) where

@@ -11,12 +11,12 @@ use lib.Seq.{length-take-le, take-all, take-append-le, drop-append-le}
 use Rattle.answer.specs.declared.Answer.{Answer}
 use Rattle.answer.specs.declared.Answer.the-variants.{Accepted, Refused}
 use Rattle.checker.specs.Line.{lineBytes}
-use Rattle.checker.specs.Machine.{start, stepped, stepOf}
-use Rattle.files.specs.File.{Lines, empty, short, full, cut, linesOf, unless, steps, leaving, run, endOf, outcome, finish, checkFile}
+use Rattle.checker.specs.Machine.{start, stepOf}
+use Rattle.files.specs.File.{Lines, empty, short, full, cut, linesOf, unless, steps, endOf, outcome, finish, checkFile}
 use Rattle.checker.specs.Calls.{left}
 use Rattle.checker.specs.declared.Checker.{Checker}
 use Rattle.checker.specs.declared.Stepped.{Stepped}
-use Rattle.files.specs.declared.Outcome.{Outcome}
+use Rattle.files.specs.declared.whole.Outcome.{Outcome}
 
 -- the answers of calls
 unfoldable pub answers : Checker → List (List ℕ) → List Answer
@@ -101,7 +101,7 @@ pub lines-joined : (bytes : List ℕ) → flatten (linesOf bytes) ≡ bytes
 lines-joined bytes = cut-joined (length bytes) bytes (omega arith)
 
 -- one line's bytes are that line
-one-line : (l : List ℕ) → 1 ≤ length l → length l ≤ lineBytes → linesOf l ≡ l ∷ []
+pub one-line : (l : List ℕ) → 1 ≤ length l → length l ≤ lineBytes → linesOf l ≡ l ∷ []
 one-line l p q = rw (next-line l p, drop-of-length-le l {i = lineBytes} q, take-all lineBytes l q, no-lines)
 
 joined-lines : {ls : List (List ℕ)} → Lines ls → linesOf (flatten ls) ≡ ls
@@ -132,42 +132,6 @@ steps-append s (l ∷ xs) ys = go (stepOf s l .answer) refl (steps-append (stepO
         ≡ unless (unless a (on xs) (stepOf s l) .answer) (steps (unless a (on xs) (stepOf s l) .state) ys) (unless a (on xs) (stepOf s l))
     go Accepted e h = h
     go (Refused r) e h = rw e
-
--- of two states that a refusal leaves, one inside the other, the outer is left
-leaving-twice : (s t : Checker) (y : Stepped) → leaving s (leaving t y) ≡ leaving s y
-leaving-twice s t y = go (y .answer) refl
-  where
-    go : (a : Answer) → y .answer ≡ a → leaving s (unless a y (stepped t a)) ≡ unless a y (stepped s a)
-    go Accepted q = rw q
-    go (Refused r) q = refl
-
--- bytes in two calls: the first has whole lines
-module _ (s : Checker) (k : ℕ) (a b : List ℕ) (whole : length a ≡ k * lineBytes) where
-  abbrev first : Stepped
-  first = steps s (linesOf a)
-
-  both : steps s (linesOf (a ++ b)) ≡ unless (first .answer) (steps (first .state) (linesOf b)) first
-  both = rw (lines-append k a b whole) (steps-append s (linesOf a) (linesOf b))
-
-  -- the second call goes on where the first is accepted; a refusal of either leaves the state that the first was given
-  pub run-append : run s (a ++ b) ≡ unless (run s a .answer) (leaving s (run (run s a .state) b)) (run s a)
-  run-append = rw both (go (first .answer) refl)
-    where
-      go : (x : Answer) → first .answer ≡ x
-          → leaving s (unless x (steps (first .state) (linesOf b)) first)
-          ≡ unless (unless x first (stepped s x) .answer) (leaving s (run (unless x first (stepped s x) .state) b)) (unless x first (stepped s x))
-      go Accepted e = rw e (sym (leaving-twice s (first .state) (steps (first .state) (linesOf b))))
-      go (Refused r) e = rw e
-
-  pub finish-append : finish s (a ++ b) ≡ outcome (run s a .answer) (finish (run s a .state) b)
-  unfolding finish
-  finish-append = rw both (go (first .answer) refl)
-    where
-      go : (x : Answer) → first .answer ≡ x
-          → outcome (unless x (steps (first .state) (linesOf b)) first .answer) (endOf (unless x (steps (first .state) (linesOf b)) first .state))
-          ≡ outcome (unless x first (stepped s x) .answer) (finish (unless x first (stepped s x) .state) b)
-      go Accepted e = rw e
-      go (Refused r) e = rw e
 
 -- ---- a file as single calls
 

@@ -15,13 +15,13 @@ use Rattle.checker.specs.Order.{ended}
 use Rattle.checker.specs.Totals.{add}
 use Rattle.checker.specs.Line.{recordIn, rulesOfLine}
 use Rattle.checker.specs.Machine.{start, lineOf, next, stepped, stepOf}
-use Rattle.files.specs.File.{Lines, empty, full, linesOf, unless, steps, endOf, outcome, finish, checkFile}
+use Rattle.files.specs.File.{Lines, empty, full, linesOf, unless, steps, endOf, outcome, whole, finish, checkFile}
 use Rattle.checker.specs.Calls.{Reached, at-start, after-line, Through, here, further}
 use Rattle.checker.specs.declared.totals.Totals.{Totals}
 use Rattle.checker.specs.declared.Checker.{Checker}
 use Rattle.checker.specs.declared.Stepped.{Stepped}
-use Rattle.files.specs.declared.Outcome.{Outcome}
-use Rattle.files.specs.declared.Outcome.the-variants.{Accepted, Refused}
+use Rattle.files.specs.declared.whole.Outcome.{Outcome}
+use Rattle.files.specs.declared.whole.Outcome.the-variants.{Accepted, Refused}
 use Rattle.checker.specs.laws.Sums.{next-counts}
 use Rattle.checker.specs.laws.Listed.{lastNumber, line-listed, broken-listed}
 use Rattle.checker.specs.laws.Meaning.{Breaks, line-accepted, line-refused, kept-line, line-moves}
@@ -40,10 +40,6 @@ pub record Passed (s : Checker) (ls : List (List ℕ)) (t : Totals) : Type 0 whe
 pub data Stopped (s : Checker) (ls : List (List ℕ)) (r : Refusal) : Type 0 where
   at-line : {t : Checker} (earlier later : List (List ℕ)) (l : List ℕ) → ls ≡ earlier ++ l ∷ later → Through s earlier t → Breaks t l r → Stopped s ls r
   at-end : {t : Checker} → Through s ls t → ended (t .phase) ≡ false → r ≡ refusal 2 (lineOf t) 0 → Stopped s ls r
-
--- lines, and then the end
-abbrev whole : Checker → List (List ℕ) → Outcome
-whole s ls = outcome (steps s ls .answer) (endOf (steps s ls .state))
 
 -- ---- lines that are accepted
 

@@ -2,12 +2,12 @@
 use mathlib.Core.Path.{_≡_, refl, ap, ap₂}
 use mathlib.Core.Bool.{Bool, true, false, cond, _&&_, _||_, and-false}
 use mathlib.Core.List.{List, [], _∷_, _++_, append-assoc}
-use Prim.Native.Nat.{ℕ, suc, _-_, _≤_, _<_, zero-le, suc-le-suc}
-use native.Mathlib.Nat.{min-eq-left}
+use Prim.Native.Nat.{ℕ, zero, suc, _-_, _≤_, _<_, zero-le, suc-le-suc}
+use native.Mathlib.Nat.{min-eq-left, sub-zero, zero-sub, suc-sub-suc}
 use native.Mathlib.Omega.{arith}
 use borrow.Author.Tests.{eqb-true, eq-eqb, ne-eqb}
 use lib.Dec.{eqb, eqb·suc-suc}
-use lib.ListN.{length, getD, take, drop, set, drop-of-length-le, take-append-drop, length-take, length-drop}
+use lib.ListN.{length, getD, take, drop, set, replicate, drop-of-length-le, take-append-drop, length-take, length-drop}
 use lib.Seq.{drop-cons, take-suc-set, drop-set-lt}
 use Rattle.digits.specs.Digits.{places}
 use Rattle.digits.specs.Numbers.{numberOf}
@@ -131,3 +131,10 @@ over-all [] [] e = refl
 over-all [] (x ∷ out) e = absurd (omega arith)
 over-all (b ∷ text) [] e = absurd (omega arith)
 over-all (b ∷ text) (x ∷ out) e = ap (λ (l : List ℕ). b ∷ l) (over-all text out (omega arith))
+
+-- ---- one byte many times
+
+pub drop-replicate : (k n x : ℕ) → drop k (replicate n x) ≡ replicate (n - k) x
+drop-replicate zero n x = rw sub-zero
+drop-replicate (suc k) zero x = rw zero-sub
+drop-replicate (suc k) (suc n) x = rw suc-sub-suc (drop-replicate k n x)

@@ -8,7 +8,7 @@ use Rattle.files.specs.File.{linesOf, checkFile}
 use Rattle.files.specs.laws.Runs.{lines-joined, lines-are}
 use Rattle.files.specs.laws.Verdict.{Passed, through-lines, accepted-file}
 use Rattle.checker.specs.declared.totals.Totals.{Totals}
-use Rattle.files.specs.declared.Outcome.the-variants.{Accepted}
+use Rattle.files.specs.declared.whole.Outcome.the-variants.{Accepted}
 use Rattle.promises.specs.Grammar.{RightFile, Meets}
 use Rattle.promises.specs.laws.Build.{built}
 use Rattle.promises.specs.laws.Parse.{parsed}

@@ -17,7 +17,7 @@ use Rattle.checker.specs.Totals.{tally, noPayments, live, withdrawn, totals, ad
 use Rattle.checker.specs.Line.{lineFrom, within, boletoRules, rulesOfType, rulesAs, typeRules, lineRules, rulesOfLine}
 use Rattle.checker.specs.Machine.{sound, stepOf}
 use Rattle.files.specs.File.{cut, steps, endOf, finish, checkFile}
-use Rattle.files.specs.declared.Outcome.the-variants.{Accepted}
+use Rattle.files.specs.declared.whole.Outcome.the-variants.{Accepted}
 use Rattle.promises.specs.Examples.{bytes}
 use Rattle.promises.specs.Guarded.{changed}
 

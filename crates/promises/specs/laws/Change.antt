@@ -24,8 +24,8 @@ use Rattle.files.specs.laws.Verdict.{Passed, accepted-file}
 use Rattle.checker.specs.declared.order.Reading.the-variants.{Line}
 use Rattle.checker.specs.declared.totals.Totals.{Totals}
 use Rattle.checker.specs.declared.Checker.{Checker}
-use Rattle.files.specs.declared.Outcome.{Outcome}
-use Rattle.files.specs.declared.Outcome.the-variants.{Accepted, Refused}
+use Rattle.files.specs.declared.whole.Outcome.{Outcome}
+use Rattle.files.specs.declared.whole.Outcome.the-variants.{Accepted, Refused}
 use Rattle.promises.specs.Grammar.{RightLine}
 use Rattle.promises.specs.Guarded.{On, In, Guarded, line-end, first-eight, detail, fixed, credit-amount, boleto-values, boleto-amount, batch-trailer, file-trailer, barcode, lineAt, GuardedIn, changed}
 use Rattle.promises.specs.laws.Facts.{either-direction}

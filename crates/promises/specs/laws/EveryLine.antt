@@ -19,7 +19,7 @@ use Rattle.files.specs.laws.Runs.{lines-joined}
 use Rattle.files.specs.laws.Verdict.{accepted-file}
 use Rattle.checker.specs.declared.totals.Totals.{Totals}
 use Rattle.checker.specs.declared.Checker.{Checker}
-use Rattle.files.specs.declared.Outcome.the-variants.{Accepted, Refused}
+use Rattle.files.specs.declared.whole.Outcome.the-variants.{Accepted, Refused}
 use Rattle.promises.specs.Grammar.{Meets, recordsInFile}
 use Rattle.promises.specs.Guarded.{On, Guarded, EachRead, lineAt, GuardedIn, changed}
 use Rattle.promises.specs.laws.ReadAs.{PassedAs, read-as, as-many}

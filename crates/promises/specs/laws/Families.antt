@@ -1,7 +1,7 @@
--- How every call ends: of the checker in any state that calls lead to, of the writer behind any calls, with one record, and with digit
--- strings; one statement for each. Assumes nothing.
-use mathlib.Core.Path.{_≡_, refl, sym, ap, _∙_}
-use mathlib.Core.Logic.{inl, inr}
+-- How every call ends: of the checker in any state that calls lead to, of the checker in parts and of the writer behind any calls, with one
+-- record, and with digit strings; one statement for each. Assumes nothing.
+use mathlib.Core.Path.{_≡_, refl, sym, ap, _∙_, subst}
+use mathlib.Core.Logic.{_≢_, inl, inr}
 use mathlib.Core.Bool.{Bool, true, false, cond}
 use mathlib.Core.List.{List, [], _∷_, _++_}
 use Prim.Native.Nat.{ℕ, suc, _+_}
@@ -11,6 +11,7 @@ use Rattle.answer.specs.Rules.{Rule, noLine, refusal, refusedAs, firstBroken}
 use Rattle.answer.specs.Output.{Writes, room}
 use Rattle.answer.specs.laws.Order.{never, broken-refused}
 use Rattle.answer.specs.laws.Only.{Only, join}
+use Rattle.answer.specs.declared.LineNo.{LineNo}
 use Rattle.answer.specs.declared.Refusal.{Refusal}
 use Rattle.answer.specs.declared.Answer.{Answer}
 use Rattle.answer.specs.declared.Answer.the-variants.{Accepted, Refused}
@@ -20,17 +21,26 @@ use Rattle.layout.specs.declared.Record.{Record}
 use Rattle.fields.specs.Values.{recordOf, readRecord}
 use Rattle.checker.specs.Order.{ended}
 use Rattle.checker.specs.Line.{recordIn, rulesOfLine}
-use Rattle.checker.specs.Machine.{lineOf, sound, stepped, answerTo, stepOf}
-use Rattle.files.specs.File.{linesOf, unless, steps, leaving, run, endOf, outcome as outcomeOf, finish}
-use Rattle.checker.specs.Calls.{Reached, at-start, after-line, Through, here, further}
-use Rattle.checker.specs.laws.Meaning.{line-accepted, refused-leaves as line-leaves}
-use Rattle.checker.specs.laws.Reached.{reached, never-guarded}
-use Rattle.files.specs.laws.Ends.{run-reached}
-use Rattle.files.specs.laws.Verdict.{Stopped, at-line, at-end, refused-rest, through-line-no}
+use Rattle.checker.specs.Machine.{start, lineOf, sound, stepped, answerTo, stepOf}
+use Rattle.files.specs.File.{linesOf, unless, steps, endOf, outcome as outcomeOf, finish, checkFile}
+use Rattle.files.specs.Parts.{arrived, answerIn, taken, statusBehind, withEnd, endCall}
+use Rattle.files.specs.Calls.{PartsCall, part, fed, bytesOf, endDeclared}
+use Rattle.checker.specs.Calls.{Reached, at-start, after-line}
+use Rattle.checker.specs.laws.Meaning.{refused-leaves as line-leaves}
+use Rattle.checker.specs.laws.Reached.{never-guarded}
+use Rattle.files.specs.laws.Ends.{end-never-guarded}
+use Rattle.files.specs.laws.Verdict.{Stopped, at-line, at-end, refused-file, through-line-no}
+use Rattle.files.specs.laws.Arrivals.{part-joined, never-ended, shut, machine-left, end-machine, end-is, end-status, fed-is, fed-reached}
+use Rattle.files.specs.laws.Told.{Stops, whole-line, behind-end, refused-exactly, part-line}
 use Rattle.checker.specs.declared.Checker.{Checker}
 use Rattle.checker.specs.declared.Stepped.{Stepped}
-use Rattle.files.specs.declared.Outcome.{Outcome}
-use Rattle.files.specs.declared.Outcome.the-variants as outcome
+use Rattle.files.specs.declared.whole.Outcome.{Outcome}
+use Rattle.files.specs.declared.whole.Outcome.the-variants as outcome
+use Rattle.files.specs.declared.incoming.Status.{Status}
+use Rattle.files.specs.declared.incoming.Status.the-variants.{Open}
+use Rattle.files.specs.declared.incoming.Status.the-variants as closed
+use Rattle.files.specs.declared.incoming.Incoming.{Incoming}
+use Rattle.files.specs.declared.incoming.Taken.{Taken}
 use Rattle.writer.specs.Given.{Call, recordsOf}
 use Rattle.writer.specs.Refusals.{held}
 use Rattle.writer.specs.Outcome.{newWriter, answerOf, Wrote}
@@ -40,7 +50,7 @@ use Rattle.writer.specs.laws.RefusedLine.{LineNamed, on-no-line, on-a-line, ref
 use Rattle.writer.specs.laws.Sequences as writer
 use Rattle.writer.specs.declared.Writer.{Writer}
 use Rattle.writer.specs.declared.Written.{Written}
-use Rattle.promises.specs.Calls.{table, InTable, Ends, Concludes, accepted, refused, OnNoLine, nothing, OneOfNext, EndsBehind, CheckerCalls, OnlyReached, NextOrNone, AnyCalls, WriterCalls, RecordCalls, StringCalls}
+use Rattle.promises.specs.Calls.{table, InTable, Ends, Concludes, accepted, refused, OnNoLine, nothing, OneOfNext, CheckerCalls, FileCalls, OnlyReached, NextOrNone, AnyCalls, LineIn, IncomingCalls, WriterCalls, RecordCalls, StringCalls}
 use Rattle.promises.specs.laws.Tabled.{Alone, tested, record-rules, line-rules, barcode-rules, digit-line-rules, call-rules}
 
 -- ---- by rules of the table that are on no line
@@ -107,73 +117,35 @@ module _ {s : Checker} (c : Reached s) where
       (line-rules t l .broken _ (broken-refused (rulesOfLine t l) _ (b .broken)) .1, rw (b .numbered) (omega arith))
   stopped ls r (at-end on lacks e) = rw e (tt, omega (arith, through-line-no c on))
 
-  -- the end of the input
-  end : (rest : List ℕ) → Concludes (OneOfNext (suc (length (linesOf rest))) s) (finish s rest)
-  end rest = go (finish s rest) refl
+  -- the end
+  end-ends : Concludes (λ n. n ≡ lineOf s .0) (endOf s)
+  unfolding table
+  end-ends = rw (end-never-guarded c) (go (ended (s .phase)))
     where
-      go : (o : Outcome) → finish s rest ≡ o → Concludes (OneOfNext (suc (length (linesOf rest))) s) o
-      go (outcome.Accepted t) e = accepted
-      go (outcome.Refused r) e = let k = stopped (linesOf rest) r (refused-rest c rest r .0 e) in refused (k .0) (k .1)
+      go : (b : Bool) → Concludes (λ n. n ≡ lineOf s .0) (cond b (outcome.Accepted (s .closed)) (outcome.Refused (refusal 2 (lineOf s) 0)))
+      go true = accepted
+      go false = refused tt refl
 
--- many lines, without the state: where they stop, and the answer there
-record Behind (s : Checker) (ls : List (List ℕ)) (a : Answer) : Type 0 where
-  earlier : List (List ℕ)
-  later : List (List ℕ)
-  before : Checker
-  are : ls ≡ earlier ++ later
-  through : Through s earlier before
-  ends : Ends nothing nothing (λ n. n ≡ lineOf before .0) a
-
-many : {s : Checker} (ls : List (List ℕ)) → Reached s → Behind s ls (steps s ls .answer)
-unfolding steps
-many {s} [] c = record { earlier = []; later = []; before = s; are = refl; through = here; ends = accepted }
-many {s} (l ∷ ls) c = go (stepOf s l .answer) refl (many ls (after-line l c))
+-- a whole file
+pub file-calls : FileCalls
+file-calls file = go (checkFile file) refl
   where
-    go : (a : Answer) → stepOf s l .answer ≡ a → Behind (stepOf s l .state) ls (steps (stepOf s l .state) ls .answer)
-        → Behind s (l ∷ ls) (unless a (steps (stepOf s l .state) ls) (stepOf s l) .answer)
-    go Accepted e k = record {
-      earlier = l ∷ k .earlier;
-      later = k .later;
-      before = k .before;
-      are = ap (λ (x : List (List ℕ)). l ∷ x) (k .are);
-      through = further (line-accepted s l (reached c) .0 e) (k .through);
-      ends = k .ends;
-    }
-    go (Refused r) e k =
-        record { earlier = []; later = l ∷ ls; before = s; are = refl; through = here; ends = with-state (stepOf s l .answer) (line-ends c l) (λ x q. refl) }
-
--- in one call
-in-one-call : {s : Checker} {L : ℕ → Type 0} (x : Stepped) → Ends nothing nothing L (x .answer) → Ends s (leaving s x .state) L (leaving s x .answer)
-in-one-call {s} {L} x e = go (x .answer) refl e
-  where
-    go : (a : Answer) → x .answer ≡ a → Ends nothing nothing L a → Ends s (unless a x (stepped s a) .state) L (unless a x (stepped s a) .answer)
-    go Accepted q k = rw q accepted
-    go (Refused r) q (refused t on k) = refused t on refl
-
-lines-end : {s : Checker} → Reached s → (part : List ℕ) → EndsBehind s (linesOf part) (run s part)
-lines-end {s} c part =
-    let k = many (linesOf part) c in
-    record {
-      earlier = k .earlier;
-      later = k .later;
-      before = k .before;
-      are = k .are;
-      through = k .through;
-      ends = in-one-call (steps s (linesOf part)) (k .ends);
-    }
+    go : (o : Outcome) → checkFile file ≡ o → Concludes (OneOfNext (suc (length (linesOf file))) start) o
+    go (outcome.Accepted t) e = accepted
+    go (outcome.Refused r) e = let k = stopped at-start (linesOf file) r (refused-file file r .0 e) in refused (k .0) (k .1)
 
 -- no public function gives another state
 pub states-reached : OnlyReached
 states-reached = record {
   at-start = at-start;
   by-line = λ c l. after-line l c;
-  by-lines = λ c part. run-reached part c;
+  in-parts = fed-reached;
   in-writer = writer.checker-reached;
 }
 
 -- calls on the checker, in every state that calls lead to; they lead to such states again (`states-reached`)
 pub checker-calls : {s : Checker} → Reached s → CheckerCalls s
-checker-calls c = record { line = line-ends c; lines = lines-end c; end = end c }
+checker-calls c = record { line = line-ends c; end = end-ends c }
 
 -- ---- in any state, though no calls lead to another
 
@@ -190,6 +162,38 @@ any-line s l = go (sound s) (firstBroken (rulesOfLine s l)) refl
     go true (Refused r) e = refused (line-rules s l .broken r e .1) (inl refl) refl
     go false a e = refused tt (inr refl) refl
 
+any-end : (s : Checker) → Concludes (NextOrNone s) (endOf s)
+unfolding table endOf
+any-end s = go (sound s) (ended (s .phase))
+  where
+    go : (b e : Bool) → Concludes (NextOrNone s) (cond b (cond e (outcome.Accepted (s .closed)) (outcome.Refused (refusal 2 (lineOf s) 0))) (outcome.Refused (refusal 51 noLine 0)))
+    go true true = accepted
+    go true false = refused tt (inl refl)
+    go false e = refused tt (inr refl)
+
+-- every call on the checker ends so in any state: one that no calls lead to is refused by 51 on no line
+pub any-state : (s : Checker) → AnyCalls s
+any-state s = record { line = any-line s; end = any-end s }
+
+-- ---- the checker in parts
+
+-- the answer to a part by the status of the state behind it
+by-status : (x : Status) (m : Checker) → ((r : Refusal) → x ≡ closed.Refused r → InTable r × (r .line .0 ≡ lineOf m .0)) → Ends nothing nothing (LineIn x m) (answerIn x)
+unfolding table
+by-status Open m named = accepted
+by-status (closed.Refused r) m named = let k = named r refl in refused (k .0) (k .1) refl
+by-status closed.Ended m named = refused tt refl refl
+
+-- a refusal of the bytes so far
+refused-so-far : (bytes : List ℕ) (r : Refusal) → arrived bytes .status ≡ closed.Refused r → InTable r × (r .line .0 ≡ lineOf (arrived bytes .machine) .0)
+unfolding table
+refused-so-far bytes r e = (go (refused-exactly bytes r .0 e), ap (λ (n : LineNo). n .0) (part-line bytes r e))
+  where
+    go : Stops start bytes r → InTable r
+    go (whole-line {t} earlier line later q on long going b) = line-rules t line .broken _ (broken-refused (rulesOfLine t line) _ (b .broken)) .1
+    go (behind-end earlier b later q on at same) = rw same tt
+
+-- many lines, and then the end, name the line behind those accepted
 any-lines : (s : Checker) (ls : List (List ℕ)) → Ends nothing nothing (NextOrNone (steps s ls .state)) (steps s ls .answer)
 unfolding steps
 any-lines s [] = accepted
@@ -203,15 +207,6 @@ any-lines s (l ∷ ls) = go (stepOf s l .answer) refl (any-lines (stepOf s l .st
     go Accepted e k = k
     go (Refused r) e k = rw (line-leaves s l r e) (with-state (stepOf s l .answer) (any-line s l) (λ x q. refl))
 
-any-end : (s : Checker) → Concludes (NextOrNone s) (endOf s)
-unfolding table endOf
-any-end s = go (sound s) (ended (s .phase))
-  where
-    go : (b e : Bool) → Concludes (NextOrNone s) (cond b (cond e (outcome.Accepted (s .closed)) (outcome.Refused (refusal 2 (lineOf s) 0))) (outcome.Refused (refusal 51 noLine 0)))
-    go true true = accepted
-    go true false = refused tt (inl refl)
-    go false e = refused tt (inr refl)
-
 any-rest : (s : Checker) (rest : List ℕ) → Concludes (NextOrNone (steps s (linesOf rest) .state)) (finish s rest)
 unfolding finish
 any-rest s rest = go (steps s (linesOf rest)) (any-lines s (linesOf rest))
@@ -223,9 +218,89 @@ any-rest s rest = go (steps s (linesOf rest)) (any-lines s (linesOf rest))
         by Accepted k = any-end (x .state)
         by (Refused r) (refused t on k) = refused t on
 
--- every call on the checker ends so in any state: one that no calls lead to is refused by 51 on no line
-pub any-state : (s : Checker) → AnyCalls s
-any-state s = record { line = any-line s; lines = λ part. in-one-call (steps s (linesOf part)) (any-lines s (linesOf part)); end = any-rest s }
+-- a refusal of the whole file, which the end tells
+refused-at-end : (bytes : List ℕ) (r : Refusal) → checkFile bytes ≡ outcome.Refused r → InTable r × (r .line .0 ≡ lineOf (arrived bytes .machine) .0)
+refused-at-end bytes r e = rw (machine-left bytes) (go (checkFile bytes) e (any-rest start bytes) (file-calls bytes))
+  where
+    m : Checker
+    m = steps start (linesOf bytes) .state
+
+    many : ℕ
+    many = suc (length (linesOf bytes))
+
+    next : NextOrNone m (r .line .0) → OneOfNext many start (r .line .0) → r .line .0 ≡ lineOf m .0
+    next (inl q) k = q
+    next (inr q) k = absurd (omega (arith, k .0))
+
+    by : Concludes (NextOrNone m) (outcome.Refused r) → Concludes (OneOfNext many start) (outcome.Refused r) → InTable r × (r .line .0 ≡ lineOf m .0)
+    by (refused t on) (refused u among) = (t, next on among)
+
+    go : (o : Outcome) → o ≡ outcome.Refused r → Concludes (NextOrNone m) o → Concludes (OneOfNext many start) o → InTable r × (r .line .0 ≡ lineOf m .0)
+    go o q k l = by (rw q at k) (rw q at l)
+
+-- how a part's call ends
+abbrev TakenEnds : Taken → Type 0
+TakenEnds x = Ends nothing nothing (LineIn (x .state .status) (x .state .machine)) (x .answer)
+
+-- the state behind some bytes
+module _ (bytes : List ℕ) where
+  not-ended-line : (x : Status) → (x ≡ closed.Ended → ⊥) → {n : ℕ} → n ≡ lineOf (arrived bytes .machine) .0 → LineIn x (arrived bytes .machine) n
+  not-ended-line Open ne e = e
+  not-ended-line (closed.Refused r) ne e = e
+  not-ended-line closed.Ended ne e = absurd (ne refl)
+
+  whole-ends : (o : Outcome) → checkFile bytes ≡ o → Concludes (LineIn (arrived bytes .status) (arrived bytes .machine)) o
+  whole-ends (outcome.Accepted t) e = accepted
+  whole-ends (outcome.Refused r) e =
+      let k = refused-at-end bytes r e in
+      refused (k .0) (not-ended-line (arrived bytes .status) (never-ended start (linesOf bytes)) (k .1))
+
+  so-far : IncomingCalls (arrived bytes)
+  so-far = record {
+    part = λ more. subst TakenEnds (sym (part-joined bytes more)) (by-status (arrived (bytes ++ more) .status) (arrived (bytes ++ more) .machine) (refused-so-far (bytes ++ more)));
+    end = rw (end-is bytes) (whole-ends (checkFile bytes) refl);
+    shut = shut (arrived bytes);
+  }
+
+-- the state behind the end, which is not open
+module _ (bytes : List ℕ) where
+  abbrev over : Incoming
+  over = endCall (arrived bytes) .state
+
+  by-outcome : (o : Outcome) (r : Refusal) → statusBehind o ≡ closed.Refused r → o ≡ outcome.Refused r
+  by-outcome (outcome.Accepted t) r e = absurd (let z : _≡_ {A = ℕ} 0 1 = cc in omega arith)
+  by-outcome (outcome.Refused x) r e = cc
+
+  named : (r : Refusal) → over .status ≡ closed.Refused r → InTable r × (r .line .0 ≡ lineOf (over .machine) .0)
+  named r e = rw (end-machine (arrived bytes)) (refused-at-end bytes r (by-outcome (checkFile bytes) r (sym (end-status bytes) ∙ e)))
+
+  not-open : over .status ≢ Open
+  not-open e = go (checkFile bytes) (sym (end-status bytes) ∙ e)
+    where
+      go : (o : Outcome) → statusBehind o ≡ Open → ⊥
+      go (outcome.Accepted t) q = absurd (let z : _≡_ {A = ℕ} 0 1 = cc in omega arith)
+      go (outcome.Refused r) q = absurd (let z : _≡_ {A = ℕ} 0 1 = cc in omega arith)
+
+  ends-again : (x : Status) → over .status ≡ x → Concludes (LineIn x (over .machine)) (withEnd x over .outcome)
+  unfolding table
+  ends-again Open e = absurd (not-open e)
+  ends-again (closed.Refused r) e = let k = named r e in refused (k .0) (k .1)
+  ends-again closed.Ended e = refused tt refl
+
+  behind-it : IncomingCalls over
+  behind-it = record {
+    part = λ more. subst TakenEnds (sym (ap taken (shut over not-open (part more)))) (by-status (over .status) (over .machine) named);
+    end = ends-again (over .status) refl;
+    shut = shut over;
+  }
+
+-- calls on the checker in parts, behind every sequence of calls
+pub incoming-calls : (cs : List PartsCall) → IncomingCalls (fed (arrived []) cs)
+incoming-calls cs = rw (fed-is cs) (go (endDeclared cs))
+  where
+    go : (b : Bool) → IncomingCalls (cond b (endCall (arrived (bytesOf cs)) .state) (arrived (bytesOf cs)))
+    go true = behind-it (bytesOf cs)
+    go false = so-far (bytesOf cs)
 
 -- ---- the writer
 

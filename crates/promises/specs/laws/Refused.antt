@@ -13,7 +13,7 @@ use Rattle.files.specs.File.{linesOf, checkFile}
 use Rattle.checker.specs.Calls.{Through}
 use Rattle.files.specs.laws.Verdict.{Stopped, at-line, at-end, refused-file, line-named}
 use Rattle.checker.specs.declared.Checker.{Checker}
-use Rattle.files.specs.declared.Outcome.the-variants.{Refused}
+use Rattle.files.specs.declared.whole.Outcome.the-variants.{Refused}
 use Rattle.promises.specs.Refusals.{behindLines, RefusedWith, too-early}
 use Rattle.promises.specs.Refusals as refusals
 

@@ -12,7 +12,7 @@ use Rattle.checker.specs.Totals.{add}
 use Rattle.checker.specs.Line.{lineBytes}
 use Rattle.files.specs.File.{linesOf}
 use Rattle.checker.specs.declared.totals.Totals.{Totals}
-use Rattle.files.specs.declared.Outcome.{Outcome}
+use Rattle.files.specs.declared.whole.Outcome.{Outcome}
 use Rattle.promises.specs.Grammar.{RightBatch, Batches, no-batches, batch, Meets}
 use Rattle.promises.specs.Guarded.{GuardedIn, changed}
 use Rattle.promises.specs.WrongOnes.{FirstBatch, FirstBatchOnly}

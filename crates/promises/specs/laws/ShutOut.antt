@@ -15,8 +15,8 @@ use Rattle.checker.specs.Machine.{sound}
 use Rattle.files.specs.File.{cut, steps, endOf, finish, checkFile}
 use Rattle.checker.specs.Totals.{withdrawnPayments}
 use Rattle.checker.specs.declared.totals.Totals.{Totals}
-use Rattle.files.specs.declared.Outcome.{Outcome}
-use Rattle.files.specs.declared.Outcome.the-variants.{Accepted, Refused}
+use Rattle.files.specs.declared.whole.Outcome.{Outcome}
+use Rattle.files.specs.declared.whole.Outcome.the-variants.{Accepted, Refused}
 use Rattle.promises.specs.Grammar.{Meets}
 use Rattle.promises.specs.Guarded.{first-eight, lineAt, GuardedIn, changed}
 use Rattle.promises.specs.Demands.{Demand2, Demand3}

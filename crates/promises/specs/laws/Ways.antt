@@ -27,7 +27,7 @@ use Rattle.checker.specs.Machine.{directionOf, sound, stepOf}
 use Rattle.files.specs.File.{cut, checkFile}
 use Rattle.checker.specs.Calls.{left}
 use Rattle.checker.specs.declared.totals.Totals.{Totals}
-use Rattle.files.specs.declared.Outcome.the-variants.{Accepted}
+use Rattle.files.specs.declared.whole.Outcome.the-variants.{Accepted}
 use Rattle.promises.specs.Guarded.{Fixed, Guarded, lineAt, ReadAt, GuardedIn}
 use Rattle.promises.specs.Guarded as guarded
 use Rattle.promises.specs.laws.AcceptedFiles.{creditFile, credit-file, returnFile, return-file}

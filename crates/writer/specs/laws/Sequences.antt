@@ -20,7 +20,7 @@ use Rattle.checker.specs.laws.Reached.{reached-kept}
 use Rattle.files.specs.laws.Runs.{lines-are}
 use Rattle.files.specs.laws.Verdict.{through-reached, through-append, through-lines, accepted-file}
 use Rattle.layout.specs.declared.shapes.Phase.the-variants.{Ended}
-use Rattle.files.specs.declared.Outcome.the-variants as outcome
+use Rattle.files.specs.declared.whole.Outcome.the-variants as outcome
 use Rattle.checker.specs.declared.Checker.{Checker}
 use Rattle.writer.specs.Given.{Call, recordsOf}
 use Rattle.writer.specs.Refusals.{held, centsSoFar}

@@ -7,10 +7,10 @@ use Rattle.probe.proofs.whole.make_calls.Statement.{statement}
 use Rattle.probe.proofs.whole.make_calls.Tie as tie
 
 abbrev Inv-loop : tie.InvT-loop
-Inv-loop payload state₀ at₀ t10 state at = at ≤ length payload
+Inv-loop payload state₀ at₀ state at = at ≤ length payload
 
 abbrev μ-loop : tie.MeasureT-loop
-μ-loop payload state₀ at₀ t10 state at = length payload - at
+μ-loop payload state₀ at₀ state at = length payload - at
 
 pub make-calls-spec : {M : Type 1} → statement M
 make-calls-spec =
@@ -27,7 +27,6 @@ make-calls-spec =
     (λ c κs. search needs)
     (λ c κs. search needs)
     (λ c. omega arith)
-    (λ c. search needs)
     (λ c. search needs)
     (λ c κs. search needs)
     (λ c κs. search needs)
