@@ -110,12 +110,12 @@ module _ (m : Checker) (there part : List ℕ) (share : ℕ) (s : Share (length 
 
       opened : (x : Status) → not (isOpen x) ≡ false → x ≡ Open
       opened Open e = refl
-      opened (Refused r) e = absurd (let z : _≡_ {A = ℕ} 0 1 = cc in omega arith)
-      opened Ended e = absurd (let z : _≡_ {A = ℕ} 0 1 = cc in omega arith)
+      opened (Refused r) e = never (sym e)
+      opened Ended e = never (sym e)
 
       go : (b : Bool) → eqb (length part) share ≡ b → (b || not (isOpen (begun .status))) ≡ false
           → arrive (begun .machine) (linesOf (drop share part)) ≡ arrive m (linesOf (there ++ part))
-      go true e q = absurd (let z : _≡_ {A = ℕ} 0 1 = cc in omega arith)
+      go true e q = never (sym q)
       go false e q =
           let less : share < length part = omega (arith, s .within, eqb-false (length part) share e) in
           on (begun .status) begun (opened (begun .status) q) (nothing less) (drop share part) ∙ sym all-parts
@@ -130,5 +130,5 @@ is-taken s part e = ap taken (go (s .status) e)
   where
     go : (x : Status) → isOpen x ≡ true → arrive (s .machine) (linesOf (bytesIn (s .line) ++ part)) ≡ withPart x s part
     go Open q = refl
-    go (Refused r) q = absurd (let z : _≡_ {A = ℕ} 0 1 = cc in omega arith)
-    go Ended q = absurd (let z : _≡_ {A = ℕ} 0 1 = cc in omega arith)
+    go (Refused r) q = never q
+    go Ended q = never q

@@ -1,4 +1,5 @@
 -- What is proved of the definitions, for other crates to cite.
+pub mod Apart
 pub mod Runs
 pub mod Ends
 pub mod Verdict

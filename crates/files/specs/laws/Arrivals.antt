@@ -27,6 +27,7 @@ use Rattle.files.specs.declared.whole.Outcome.the-variants as out
 use Rattle.files.specs.declared.incoming.Status.{Status}
 use Rattle.files.specs.declared.incoming.Status.the-variants.{Open, Refused, Ended}
 use Rattle.files.specs.declared.incoming.Incoming.{Incoming}
+use Rattle.files.specs.laws.Apart.{open-ended, refused-ended}
 use Rattle.files.specs.laws.Runs.{no-lines, one-line, lines-shaped, firstOf}
 use Rattle.files.specs.laws.Ends.{steps-reached}
 use Rattle.files.specs.laws.Joins.{bytes-waiting, whole-judged, waits-short, arrive-joined}
@@ -40,14 +41,14 @@ part-joined a b = ap taken (sym (arrive-joined start a b))
 -- the state behind a part is never an ended one
 pub never-ended : (m : Checker) (ls : List (List ℕ)) → arrive m ls .status ≡ Ended → ⊥
 unfolding arrive
-never-ended m [] e = absurd (let z : _≡_ {A = ℕ} 0 1 = cc in omega arith)
+never-ended m [] e = open-ended e
 never-ended m (l ∷ ls) e = go (waits m l) (stepOf m l .answer) (never-ended (stepOf m l .state) ls) e
   where
     go : (b : Bool) (a : Answer) → (arrive (stepOf m l .state) ls .status ≡ Ended → ⊥)
         → cond b (state m l Open) (unlessRefused a (stepOf m l .state) (arrive (stepOf m l .state) ls)) .status ≡ Ended → ⊥
-    go true a on q = absurd (let z : _≡_ {A = ℕ} 0 1 = cc in omega arith)
+    go true a on q = open-ended q
     go false answer.Accepted on q = on q
-    go false (answer.Refused r) on q = absurd (let z : _≡_ {A = ℕ} 0 1 = cc in omega arith)
+    go false (answer.Refused r) on q = refused-ended q
 
 -- ---- the machine
 

@@ -3,7 +3,6 @@ use mathlib.Core.Path.{_≡_, sym, ap, _∙_}
 use mathlib.Core.Bool.{Bool, true, false, cond}
 use mathlib.Core.List.{List, [], _∷_}
 use Prim.Native.Nat.{ℕ}
-use native.Mathlib.Omega.{arith}
 use Rattle.answer.specs.Rules.{refusal}
 use Rattle.answer.specs.declared.Refusal.{Refusal}
 use Rattle.answer.specs.declared.Answer.{Answer}
@@ -14,6 +13,7 @@ use Rattle.files.specs.File.{unless, steps, endOf}
 use Rattle.checker.specs.Calls.{Reached, after-line}
 use Rattle.files.specs.declared.whole.Outcome.the-variants as outcome
 use Rattle.checker.specs.declared.Checker.{Checker}
+use Rattle.files.specs.laws.Apart.{accepted-refused}
 use Rattle.checker.specs.laws.Reached.{reached}
 
 pub steps-reached : {s : Checker} (ls : List (List ℕ)) → Reached s → Reached (steps s ls .state)
@@ -36,5 +36,5 @@ module _ {s : Checker} (c : Reached s) where
   end-number r e = go (ended (s .phase)) (sym end-never-guarded ∙ e)
     where
       go : (b : Bool) → cond b (outcome.Accepted (s .closed)) (outcome.Refused (refusal 2 (lineOf s) 0)) ≡ outcome.Refused r → r .number ≡ 2
-      go true q = absurd (let z : _≡_ {A = ℕ} 0 1 = cc in omega arith)
+      go true q = accepted-refused q
       go false q = let same : refusal 2 (lineOf s) 0 ≡ r = cc in sym (ap (λ (x : Refusal). x .number) same)

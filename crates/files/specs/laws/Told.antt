@@ -25,6 +25,7 @@ use Rattle.files.specs.declared.incoming.Status.{Status}
 use Rattle.files.specs.declared.incoming.Status.the-variants.{Open, Refused}
 use Rattle.files.specs.declared.incoming.Incoming.{Incoming}
 use Rattle.files.specs.declared.incoming.Taken.{Taken}
+use Rattle.files.specs.laws.Apart.{open-refused}
 use Rattle.files.specs.laws.Runs.{no-lines, one-line, next-line, lines-shaped, lines-joined, lines-are}
 use Rattle.files.specs.laws.Verdict.{through-reached, through-steps, through-lines}
 use Rattle.files.specs.laws.Arrivals.{part-joined}
@@ -145,10 +146,10 @@ stops-refused bytes r k = ap (λ (x : Incoming). x .status) (stops-there bytes r
 
 was-open : {s : Checker} {bytes : List ℕ} {x : Status} → Said s bytes x → x ≡ Open → GoesOn s bytes
 was-open (goes-on w) e = w
-was-open (refuses k) e = absurd (let z : _≡_ {A = ℕ} 0 1 = cc in omega arith)
+was-open (refuses k) e = open-refused (sym e)
 
 was-refused : {s : Checker} {bytes : List ℕ} {x : Status} → Said s bytes x → (r : Refusal) → x ≡ Refused r → Stops s bytes r
-was-refused (goes-on w) r e = absurd (let z : _≡_ {A = ℕ} 0 1 = cc in omega arith)
+was-refused (goes-on w) r e = open-refused e
 was-refused {s} {bytes} (refuses k) r e = subst (Stops s bytes) (cc) k
 
 said-of : (bytes : List ℕ) → Said start bytes (arrived bytes .status)

@@ -1,5 +1,5 @@
 -- What the answer to a whole file says, both ways: accepted, or refused and where. Assumes nothing.
-use mathlib.Core.Path.{_≡_, refl, ap, _∙_, subst}
+use mathlib.Core.Path.{_≡_, refl, sym, ap, _∙_, subst}
 use mathlib.Core.Logic.{_↔_}
 use mathlib.Core.Bool.{Bool, true, false, cond}
 use mathlib.Core.List.{List, [], _∷_, _++_}
@@ -26,6 +26,7 @@ use Rattle.checker.specs.laws.Sums.{next-counts}
 use Rattle.checker.specs.laws.Listed.{lastNumber, line-listed, broken-listed}
 use Rattle.checker.specs.laws.Meaning.{Breaks, line-accepted, line-refused, kept-line, line-moves}
 use Rattle.checker.specs.laws.Reached.{reached}
+use Rattle.files.specs.laws.Apart.{accepted-refused}
 use Rattle.files.specs.laws.Ends.{end-never-guarded}
 use Rattle.files.specs.laws.Runs.{steps-append}
 
@@ -105,10 +106,10 @@ described {s} (l ∷ ls) c = go (stepOf s l .answer) refl (described ls (after-l
 
 was-passed : {s : Checker} {ls : List (List ℕ)} {o : Outcome} → Described s ls o → (t : Totals) → o ≡ Accepted t → Passed s ls t
 was-passed {s} {ls} (passed p) t e = subst (Passed s ls) (cc) p
-was-passed (stopped x) t e = absurd (let z : _≡_ {A = ℕ} 0 1 = cc in omega arith)
+was-passed (stopped x) t e = accepted-refused (sym e)
 
 was-stopped : {s : Checker} {ls : List (List ℕ)} {o : Outcome} → Described s ls o → (r : Refusal) → o ≡ Refused r → Stopped s ls r
-was-stopped (passed p) r e = absurd (let z : _≡_ {A = ℕ} 0 1 = cc in omega arith)
+was-stopped (passed p) r e = accepted-refused e
 was-stopped {s} {ls} (stopped x) r e = subst (Stopped s ls) (cc) x
 
 -- ---- the end of the input, and a whole file

@@ -28,6 +28,7 @@ use Rattle.files.specs.Calls.{PartsCall, part, fed, bytesOf, endDeclared}
 use Rattle.checker.specs.Calls.{Reached, at-start, after-line}
 use Rattle.checker.specs.laws.Meaning.{refused-leaves as line-leaves}
 use Rattle.checker.specs.laws.Reached.{never-guarded}
+use Rattle.files.specs.laws.Apart.{open-refused, open-ended, refused-ended}
 use Rattle.files.specs.laws.Ends.{end-never-guarded}
 use Rattle.files.specs.laws.Verdict.{Stopped, at-line, at-end, refused-file, through-line-no}
 use Rattle.files.specs.laws.Arrivals.{part-joined, never-ended, shut, machine-left, end-machine, end-is, end-status, fed-is, fed-reached}
@@ -268,7 +269,7 @@ module _ (bytes : List ℕ) where
   over = endCall (arrived bytes) .state
 
   by-outcome : (o : Outcome) (r : Refusal) → statusBehind o ≡ closed.Refused r → o ≡ outcome.Refused r
-  by-outcome (outcome.Accepted t) r e = absurd (let z : _≡_ {A = ℕ} 0 1 = cc in omega arith)
+  by-outcome (outcome.Accepted t) r e = refused-ended (sym e)
   by-outcome (outcome.Refused x) r e = cc
 
   named : (r : Refusal) → over .status ≡ closed.Refused r → InTable r × (r .line .0 ≡ lineOf (over .machine) .0)
@@ -278,8 +279,8 @@ module _ (bytes : List ℕ) where
   not-open e = go (checkFile bytes) (sym (end-status bytes) ∙ e)
     where
       go : (o : Outcome) → statusBehind o ≡ Open → ⊥
-      go (outcome.Accepted t) q = absurd (let z : _≡_ {A = ℕ} 0 1 = cc in omega arith)
-      go (outcome.Refused r) q = absurd (let z : _≡_ {A = ℕ} 0 1 = cc in omega arith)
+      go (outcome.Accepted t) q = open-ended (sym q)
+      go (outcome.Refused r) q = open-refused (sym q)
 
   ends-again : (x : Status) → over .status ≡ x → Concludes (LineIn x (over .machine)) (withEnd x over .outcome)
   unfolding table

@@ -17,6 +17,7 @@ use Rattle.checker.specs.Totals.{withdrawnPayments}
 use Rattle.checker.specs.declared.totals.Totals.{Totals}
 use Rattle.files.specs.declared.whole.Outcome.{Outcome}
 use Rattle.files.specs.declared.whole.Outcome.the-variants.{Accepted, Refused}
+use Rattle.files.specs.laws.Apart.{accepted-refused}
 use Rattle.promises.specs.Grammar.{Meets}
 use Rattle.promises.specs.Guarded.{first-eight, lineAt, GuardedIn, changed}
 use Rattle.promises.specs.Demands.{Demand2, Demand3}
@@ -26,16 +27,13 @@ use Rattle.promises.specs.laws.AcceptedFiles.{creditFile, credit-file, r
 use Rattle.promises.specs.laws.Change.{change-refused}
 use Rattle.promises.specs.laws.SecondBatch.{behindFirst, guarded-there, unseen}
 
-not-both : {t : Totals} {r : Refusal} → Accepted t ≡ Refused r → ⊥
-not-both e = absurd (let z : _≡_ {A = ℕ} 0 1 = cc in omega arith)
-
 -- it meets demand 2: then its acceptances are the checker's
 same-accepted : {check : List ℕ → Outcome} → Demand2 check → (file : List ℕ) (t : Totals) → check file ≡ Accepted t → checkFile file ≡ Accepted t
 same-accepted h file t e = accepted-exactly file t .1 (h file t .0 e)
 
 -- one that refuses all files: some file meets the grammar
 pub refuses-all : (check : List ℕ → Outcome) → ((file : List ℕ) → (r : Refusal) × (check file ≡ Refused r)) → Demand2 check → ⊥
-refuses-all check all h = not-both (sym (h creditFile _ .1 (accepted-exactly creditFile _ .0 credit-file)) ∙ all creditFile .1)
+refuses-all check all h = accepted-refused (sym (h creditFile _ .1 (accepted-exactly creditFile _ .0 credit-file)) ∙ all creditFile .1)
 
 -- one that reports totals that are not the file's: payments or cents made up
 pub invented : (check : List ℕ → Outcome) → Demand2 check → (file : List ℕ) (t u : Totals) → Meets file t → check file ≡ Accepted u → u ≢ t → ⊥
@@ -48,12 +46,12 @@ never-withdrawn check none h = let z = none withdrawnFile _ (h withdrawnFile _ .
 -- one that gives a file the same answer with another byte at a guarded place: that of another batch than the first, for one that looks at the first only
 pub overlooks-3 : (check : List ℕ → Outcome) → Demand3 check → (file : List ℕ) (t : Totals) (n p b : ℕ) → check file ≡ Accepted t → GuardedIn file n p
     → b ≢ place p (lineAt n file) → check (changed file n p b) ≡ check file → ⊥
-overlooks-3 check h file t n p b e g ne same = not-both (sym e ∙ (sym same ∙ h file t n p b e g ne .1))
+overlooks-3 check h file t n p b e g ne same = accepted-refused (sym e ∙ (sym same ∙ h file t n p b e g ne .1))
 
 pub overlooks-2 : (check : List ℕ → Outcome) → Demand2 check → (file : List ℕ) (t : Totals) (n p b : ℕ) → check file ≡ Accepted t → GuardedIn file n p
     → b ≢ place p (lineAt n file) → check (changed file n p b) ≡ check file → ⊥
 overlooks-2 check h file t n p b e g ne same =
-    not-both (sym (same-accepted h (changed file n p b) t (same ∙ e)) ∙ change-refused file t n p b (same-accepted h file t e) g ne .1)
+    accepted-refused (sym (same-accepted h (changed file n p b) t (same ∙ e)) ∙ change-refused file t n p b (same-accepted h file t e) g ne .1)
 
 -- one that looks at the first batch only, and accepts a file of two or more: a byte of the second is changed
 pub first-batch-only-3 : (check : List ℕ → Outcome) → FirstBatchOnly check → Demand3 check → (file : List ℕ) (t u : Totals) → Meets file t → 2 ≤ t .batches
@@ -75,7 +73,7 @@ first-batch-only-2 check only h =
 -- the empty file is refused, with 2
 empty-refused : {t : Totals} → checkFile [] ≡ Accepted t → ⊥
 unfolding finish cut steps endOf sound
-empty-refused e = not-both (sym e)
+empty-refused e = accepted-refused (sym e)
 
 -- one acceptance for every file: the empty one is refused, and every file has another
 pub one-acceptance-2 : (check : List ℕ → Outcome) (t : Totals) → ((file : List ℕ) → check file ≡ Accepted t) → Demand2 check → ⊥
