@@ -6,11 +6,16 @@ use native.Mathlib.Omega.{arith}
 use lib.Dec.{T}
 use Rattle.layout.specs.inner.Lent.{kindOf, contentOf, fillOf, mayBe}
 use Rattle.layout.specs.Field.{Kind}
-use Rattle.layout.specs.Kinds.{asNumber, asBytes, asFixed, means}
+use Rattle.layout.specs.Kinds.{Presence, aNumber, asBytes, asFixed, means}
 use Rattle.layout.specs.laws.Contents.{Filled, a-number, its-text, fixed, filled}
 use Rattle.layout.specs.declared.fixed.Content.{Content}
 use Rattle.layout.specs.declared.kinds.Fill.{Fill}
 use Rattle.layout.specs.declared.kinds.Fill.the-variants.{Number, Text, Fixed}
+
+-- a kind that is held as a number
+pub record Numeric (k : Kind) : Type 0 where
+  pub presence : Presence
+  pub held : means k .held ≡ aNumber presence
 
 -- a kind of fixed content, which is c at each width that the kind may have
 pub record Holds (k : Kind) (c : Content) : Type 0 where
@@ -19,8 +24,8 @@ pub record Holds (k : Kind) (c : Content) : Type 0 where
   pub is : (w : ℕ) → T (mayBe k w) → contentOf c w ≡ content w
 
 module _ {k : Kind} where
-  number-held : {x : Fill} → Filled k x → x ≡ Number → means k .held ≡ asNumber
-  number-held (a-number h) e = h
+  number-held : {x : Fill} → Filled k x → x ≡ Number → Numeric k
+  number-held (a-number {p = p} h) e = record { presence = p; held = h }
   number-held (its-text h) e = absurd (let z : _≡_ {A = ℕ} 0 1 = cc in omega arith)
   number-held (fixed h t) e = absurd (let z : _≡_ {A = ℕ} 0 1 = cc in omega arith)
 
@@ -38,7 +43,7 @@ module _ {k : Kind} where
 
 -- a field whose kind has the number n
 module _ (n : ℕ) {x : Fill} (e : x ≡ fillOf n) where
-  pub as-number : x ≡ Number → means (kindOf n) .held ≡ asNumber
+  pub as-number : x ≡ Number → Numeric (kindOf n)
   as-number q = number-held (filled n) (sym e ∙ q)
 
   pub as-text : x ≡ Text → means (kindOf n) .held ≡ asBytes

@@ -1,14 +1,16 @@
 -- The fields put one after the other over the output, and what stands there in the end. Assumes nothing.
 use mathlib.Core.Path.{_≡_, sym, ap, _∙_}
+use mathlib.Core.Bool.{Bool, false}
 use mathlib.Core.List.{List, [], _∷_, _++_, append-assoc}
 use Prim.Native.Nat.{ℕ, suc, _+_, _-_, _≤_, _<_}
-use native.Mathlib.Nat.{add-zero, le-antisymm}
+use native.Mathlib.Nat.{le-antisymm}
 use native.Mathlib.Numerals.{add-one}
 use native.Mathlib.Omega.{arith}
 use lib.Dec.{T, eqb→eq}
 use lib.ListN.{length, getD, take, drop, length-append, length-drop, take-append-drop}
-use lib.Seq.{take-at, drop-at, drop-drop, length-take-le, slice, slice-cons, slice-empty, getD-drop}
+use lib.Seq.{take-at, drop-at, drop-drop, length-take-le, slice, slice-cons, slice-empty}
 use Rattle.digits.specs.Digits.{places}
+use Rattle.digits.specs.declared.spelling.Number.{Number}
 use Rattle.answer.specs.Output.{over}
 use Rattle.layout.specs.inner.Lent.{kindOf, fieldCount}
 use Rattle.layout.specs.Field.{Field, field, part, none}
@@ -18,7 +20,8 @@ use Rattle.layout.specs.laws.Tiling.{tiled, ends, All}
 use Rattle.layout.specs.laws.Sound.{width, Sound, sounds}
 use Rattle.layout.specs.laws.Columns.{Stands, all-length}
 use Rattle.layout.specs.declared.Record.{Record}
-use Rattle.fields.specs.Values.{heldAs, rendered, joined, overField}
+use Rattle.fields.specs.Values.{heldAs, numberIf, nth, rendered, joined, overField}
+use Rattle.fields.specs.declared.Fields.{Fields}
 use Rattle.fields.specs.laws.Parts.{first}
 
 -- bytes put over a field's places
@@ -26,26 +29,27 @@ abbrev pub put : Field → List ℕ → List ℕ → List ℕ
 put f bs out = take (f .from - 1) out ++ (bs ++ drop (width f) (drop (f .from - 1) out))
 
 -- the fields put one after the other
-unfoldable pub putFields : List Field → List ℕ → List ℕ → List ℕ → List ℕ
-putFields [] ns text out = out
-putFields (f ∷ fs) ns text out = putFields fs (drop 1 ns) text (put f (rendered (heldAs f) (getD ns 0 0) (part f text)) out)
+unfoldable pub putFields : List Field → ℕ → (ℕ → Number) → List ℕ → List ℕ → List ℕ
+putFields [] i of text out = out
+putFields (f ∷ fs) i of text out = putFields fs (suc i) of text (put f (rendered (heldAs f) (of i) (part f text)) out)
+
+-- what the two columns of numbers give at each index
+abbrev pub numbered : List ℕ → List Bool → ℕ → Number
+numbered numbers given j = numberIf (getD given j false) (getD numbers j 0)
 
 -- one field more
-pub put-more : (f past start : ℕ) {from to k : ℕ} (ns text out new : List ℕ) → start ≤ f → f < past → past ≤ fieldCount → Stands f from to k
-    → new ≡ rendered (means (kindOf k) .held) (getD ns (f - start) 0) (places from to text)
-    → putFields (slice (f + 1) past all) (drop (f + 1 - start) ns) text (put (field from to (kindOf k)) new out)
-    ≡ putFields (slice f past all) (drop (f - start) ns) text out
+pub put-more : (f past start : ℕ) {from to k : ℕ} (of : ℕ → Number) (text out new : List ℕ) → start ≤ f → f < past → past ≤ fieldCount → Stands f from to k
+    → new ≡ rendered (means (kindOf k) .held) (of (f - start)) (places from to text)
+    → putFields (slice (f + 1) past all) (f + 1 - start) of text (put (field from to (kindOf k)) new out) ≡ putFields (slice f past all) (f - start) of text out
 unfolding putFields
-put-more f past start {from} {to} {k} ns text out new b h l s q =
-    let m : f + 1 - start ≡ f - start + 1 = omega arith in
+put-more f past start of text out new b h l s q =
+    let m : f + 1 - start ≡ suc (f - start) = omega arith in
     let u : past ≤ length all = rw all-length l in
-    let z : getD (drop (f - start) ns) 0 0 ≡ getD ns (f - start) 0 = getD-drop (f - start) ns 0 0 ∙ rw add-zero in
-    let q′ = q ∙ ap (λ (n : ℕ). rendered (means (kindOf k) .held) n (places from to text)) (sym z) in
-    rw (m, add-one f, slice-cons f past all none h u, ← (s .is), q′, ← (drop-drop 1 (f - start) ns))
+    rw (m, add-one f, slice-cons f past all none h u, ← (s .is), q)
 
-pub put-end : (f past : ℕ) (ns text out : List ℕ) → f ≤ past → past ≤ f → putFields (slice f past all) ns text out ≡ out
+pub put-end : (f past i : ℕ) (of : ℕ → Number) (text out : List ℕ) → f ≤ past → past ≤ f → putFields (slice f past all) i of text out ≡ out
 unfolding putFields
-put-end f past ns text out h l = rw (le-antisymm h l, slice-empty)
+put-end f past i of text out h l = rw (le-antisymm h l, slice-empty)
 
 -- what a field's part holds behind bytes copied over it, put there
 pub put-over : (f : Field) (bs text : List ℕ) → f .from - 1 ≤ f .to → put f (over bs (part f text)) text ≡ overField f bs text
@@ -71,24 +75,24 @@ module _ (a e : ℕ) (out bs : List ℕ) (h : a ≤ e) (l : e ≤ recordBytes) (
       rw (front, take-at _ (drop e out) e front-length, q) (simp append-assoc)
 
 -- fields that tile a record from p + 1 on, put over the output, give it up to p, their bytes, and it behind the record
-module _ (text : List ℕ) (full : length text ≡ recordBytes) where
-  put-all : (p : ℕ) (fs : List Field) (ns out : List ℕ) → T (tiles (suc p) fs) → All Sound fs → recordBytes ≤ length out
-      → putFields fs ns text out ≡ take p out ++ (joined fs ns text ++ drop recordBytes out)
+module _ (v : Fields) (full : length (v .text) ≡ recordBytes) where
+  put-all : (p : ℕ) (fs : List Field) (i : ℕ) (out : List ℕ) → T (tiles (suc p) fs) → All Sound fs → recordBytes ≤ length out
+      → putFields fs i (λ j. nth j v) (v .text) out ≡ take p out ++ (joined fs i v ++ drop recordBytes out)
   unfolding putFields joined tiles All
-  put-all p [] ns out t s h =
+  put-all p [] i out t s h =
       let e : p ≡ recordBytes = omega (arith, eqb→eq (suc p) (suc recordBytes) t) in
       rw e (sym (take-append-drop recordBytes out))
-  put-all p (f ∷ fs) ns out t s h =
-      let a = first text full p f fs (getD ns 0 0) t (s .0) in
-      let bs = rendered (heldAs f) (getD ns 0 0) (part f text) in
+  put-all p (f ∷ fs) i out t s h =
+      let a = first (v .text) full p f fs (nth i v) t (s .0) in
+      let bs = rendered (heldAs f) (nth i v) (part f (v .text)) in
       let u = ends (suc (f .to)) fs (a .others) in
       let o : f .from - 1 ≤ f .to = omega (arith, a .start, a .next) in
       let up : f .to ≤ recordBytes = omega (arith, u) in
-      put-all (f .to) fs (drop 1 ns) (put f bs out) (a .others) (s .1) (rw (put-length (f .from - 1) (f .to) out bs o up h (a .long)) h)
-      ∙ put-then (f .from - 1) (f .to) out bs o up h (a .long) (joined fs (drop 1 ns) text)
+      put-all (f .to) fs (suc i) (put f bs out) (a .others) (s .1) (rw (put-length (f .from - 1) (f .to) out bs o up h (a .long)) h)
+      ∙ put-then (f .from - 1) (f .to) out bs o up h (a .long) (joined fs (suc i) v)
       ∙ rw (a .start)
 
   -- the fields of a record, put over the output, give the record and the output behind it
-  pub put-record : (r : Record) (fs : List Field) (ns out : List ℕ) → fs ≡ fieldsOf r → recordBytes ≤ length out
-      → putFields fs ns text out ≡ joined (fieldsOf r) ns text ++ drop recordBytes out
-  put-record r fs ns out e h = rw e (put-all 0 (fieldsOf r) ns out (tiled r) (sounds r) h)
+  pub put-record : (r : Record) (fs : List Field) (out : List ℕ) → fs ≡ fieldsOf r → recordBytes ≤ length out
+      → putFields fs 0 (λ j. nth j v) (v .text) out ≡ joined (fieldsOf r) 0 v ++ drop recordBytes out
+  put-record r fs out e h = rw e (put-all 0 (fieldsOf r) 0 out (tiled r) (sounds r) h)

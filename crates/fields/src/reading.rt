@@ -1,6 +1,8 @@
-// Reading: the check, then each field's number, and the record's bytes as they stand.
+// Reading: the check, then the fields.
 use super::Fields;
 use super::RecordRead;
+use super::presence::is_given;
+use super::presence::or_zero;
 use super::table::field_at;
 use answer::Answer;
 use digits::Number;
@@ -14,23 +16,22 @@ ghost use Rattle.layout.specs.Table.{recordBytes};
 ghost use Rattle.layout.specs.Kinds.{means};
 ghost use Rattle.fields.specs.Values.{numberIn, fieldsIn, readRecord};
 
-// The number that a field's digits give; 0 where it is not held as one.
-fn number_in(k: u8, part: &[u8]) -> u64
+// The number that a field's digits give, and none where it is not given; 0 where it is not held as a
+// number.
+fn number_in(k: u8, part: &[u8]) -> Number
     ensures { λ r. ⌜ r ≡ numberIn (means (kindOf k) .held) (now (part .entry)) ⌝ }
 {
     match layout::fill_of(k) {
-        Fill::Number => match digits::number_of(part) {
-            Number::Is(n) => n,
-            Number::Not => 0,
-        },
-        Fill::Text => 0,
-        Fill::Fixed(_) => 0,
+        Fill::Number => digits::number_of(part),
+        Fill::Text => Number::Is(0),
+        Fill::Fixed(_) => Number::Is(0),
     }
 }
 
-fn numbers_of(rec: &[u8], which: Record) -> [u64; 32]
+// Each field's number, whether it is given, and the record's bytes as they stand.
+fn fields_of(rec: &[u8], which: Record) -> Fields
     requires { ⌜ length (now rec) ≡ recordBytes ⌝ }
-    ensures { λ r. ⌜ r ≡ fieldsIn which (now (rec .entry)) .numbers ⌝ }
+    ensures { λ r. ⌜ r ≡ fieldsIn which (now (rec .entry)) ⌝ }
 {
     let from = layout::FROM;
     let to = layout::TO;
@@ -39,16 +40,25 @@ fn numbers_of(rec: &[u8], which: Record) -> [u64; 32]
     let first = s.first;
     let past = s.past;
     let mut numbers = [0u64; 32];
+    let mut given = [true; 32];
     let mut f = first;
     while f < past {
         let e = field_at(&from, &to, &kind, f);
         let k = e.kind;
         let start = e.from - 1;
         let end = e.to;
-        numbers[f - first] = number_in(k, &rec[start..end]);
+        let m = number_in(k, &rec[start..end]);
+        numbers[f - first] = or_zero(m);
+        given[f - first] = is_given(m);
         f += 1;
     }
-    numbers
+    let text = text_of(rec);
+    Fields {
+        which,
+        numbers,
+        given,
+        text,
+    }
 }
 
 fn text_of(rec: &[u8]) -> [u8; 240]
@@ -71,13 +81,7 @@ pub fn read_record(rec: &[u8], which: Record, dir: Direction) -> RecordRead
             RecordRead { answer, fields }
         }
         Answer::Accepted => {
-            let numbers = numbers_of(rec, which);
-            let text = text_of(rec);
-            let fields = Fields {
-                which,
-                numbers,
-                text,
-            };
+            let fields = fields_of(rec, which);
             RecordRead { answer, fields }
         }
     }

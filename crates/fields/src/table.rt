@@ -9,7 +9,7 @@ ghost use lib.ListN.{length};
 ghost use Rattle.layout.specs.inner.Lent.{fieldCount, startOf, Columns};
 ghost use Rattle.layout.specs.Table.{fieldsOf};
 ghost use Rattle.layout.specs.laws.Columns.{Stands};
-ghost use Rattle.fields.specs.Values.{isNumberAt};
+ghost use Rattle.fields.specs.Values.{isNumberAt, mayBeAbsentAt};
 
 // An entry of the table, whose columns are lent.
 pub(crate) fn field_at(
@@ -59,4 +59,15 @@ pub fn is_number(which: Record, field: usize) -> bool
         Fill::Text => false,
         Fill::Fixed(_) => false,
     }
+}
+
+// Whether a field of a record is held as a number that may be not given.
+pub fn may_be_absent(which: Record, field: usize) -> bool
+    ensures { λ r. ⌜ r ≡ mayBeAbsentAt which field ⌝ }
+{
+    if count(which) <= field {
+        return false;
+    }
+    let e = entry_of(which, field);
+    layout::kinds::may_be_absent(e.kind)
 }

@@ -1,8 +1,12 @@
 // Writing: the record that fields make, checked by the reader's rules and then put into the output.
 use super::Fields;
+use super::presence::number_if;
 use super::table::field_at;
 use answer::Answer;
 use answer::numbers;
+use digits::Number;
+use layout::BLANK;
+use layout::Content;
 use layout::Direction;
 use layout::FIELDS;
 use layout::Fill;
@@ -20,15 +24,25 @@ ghost use Rattle.layout.specs.inner.Lent.{kindOf, Columns, mayBe};
 ghost use Rattle.layout.specs.Table.{recordBytes};
 ghost use Rattle.layout.specs.Kinds.{means};
 ghost use Rattle.layout.specs.Record.{recordRules, byteRule};
-ghost use Rattle.fields.specs.Values.{rendered, recordOf, madeOf, notMade, Puts};
+ghost use Rattle.fields.specs.Values.{numberBytes, rendered, recordOf, madeOf, notMade, Puts};
+
+// A number over its field's part of the output: its digits, or blanks where it is not given.
+fn write_given(m: Number, part: &mut [u8])
+    ensures { λ _. ⌜ now (part .exit) ≡ numberBytes (length (now (part .entry))) m ⌝ }
+{
+    match m {
+        Number::Is(n) => digits::write_number(n, part),
+        Number::Not => Content::Run(BLANK).write(part),
+    }
+}
 
 // One field, over its part of the output: the caller's number or text, or the fixed content.
-fn write_field(k: u8, n: u64, text: &[u8], part: &mut [u8])
+fn write_field(k: u8, m: Number, text: &[u8], part: &mut [u8])
     requires { ⌜ (length (now text) ≡ length (now part)) × Holds (mayBe (kindOf k) (length (now part))) ⌝ }
-    ensures { λ _. ⌜ now (part .exit) ≡ rendered (means (kindOf k) .held) n (now (text .entry)) ⌝ }
+    ensures { λ _. ⌜ now (part .exit) ≡ rendered (means (kindOf k) .held) m (now (text .entry)) ⌝ }
 {
     match layout::fill_of(k) {
-        Fill::Number => digits::write_number(n, part),
+        Fill::Number => write_given(m, part),
         Fill::Text => layout::copy(text, part),
         Fill::Fixed(content) => content.write(part),
     }
@@ -42,6 +56,7 @@ fn render(from: &[u8; FIELDS], to: &[u8; FIELDS], kind: &[u8; FIELDS], v: Fields
 {
     let which = v.which;
     let numbers = v.numbers;
+    let given = v.given;
     let text = v.text;
     let s = layout::span_of(which);
     let first = s.first;
@@ -52,8 +67,8 @@ fn render(from: &[u8; FIELDS], to: &[u8; FIELDS], kind: &[u8; FIELDS], v: Fields
         let k = e.kind;
         let start = e.from - 1;
         let end = e.to;
-        let n = numbers[f - first];
-        write_field(k, n, &text[start..end], &mut out[start..end]);
+        let m = number_if(given[f - first], numbers[f - first]);
+        write_field(k, m, &text[start..end], &mut out[start..end]);
         f += 1;
     }
 }

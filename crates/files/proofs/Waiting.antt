@@ -69,7 +69,7 @@ joined-room u more = rw (length-append, length-append, there u .front) (omega ar
 
 -- bytes that come first
 pub first-joined : (rest : List ℕ) → joined (waiting []) rest ≡ waiting rest
-first-joined rest = rw (zero-add, drop-replicate (length rest) lineBytes 0)
+first-joined rest = rw (zero-add, drop-replicate {A = ℕ} (length rest) lineBytes 0)
 
 -- ---- the share of a part
 

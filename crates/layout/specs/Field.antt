@@ -3,10 +3,10 @@ use mathlib.Core.List.{List}
 use Prim.Native.Nat.{ℕ}
 use Rattle.digits.specs.Digits.{places}
 
--- N digits; Id digits of a CPF or CNPJ number; T text; F any; D a date; Time; K blanks; O blanks in a remittance; zeros; exact content;
--- a domain; service and form; the barcode; the record's type and its segment
+-- N digits; NOrBlank digits, or blanks for a number that is not given; Id digits of a CPF or CNPJ number; T text; F any; D a date; Time; K blanks;
+-- O blanks in a remittance; zeros; exact content; a domain; service and form; the barcode; the record's type and its segment
 pub data Kind : Type 0 where
-  N Id T F D Time K O Zeros Service Form Barcode : Kind
+  N NOrBlank Id T F D Time K O Zeros Service Form Barcode : Kind
   Exact OneOf : List ℕ → Kind
   RecordType Segment : ℕ → Kind
 

@@ -10,15 +10,33 @@ use Rattle.calendar.specs.Calendar.{dateFits, timeFits}
 use Rattle.boleto.specs.Strings.{currencyPlace}
 use Rattle.boleto.specs.Rules.{currencyFits}
 use Rattle.layout.specs.Pairs.{among, batchOf, known}
-use Rattle.layout.specs.Field.{Kind, N, Id, T, F, D, Time, K, O, Zeros, Exact, OneOf, Service, Form, Barcode, RecordType, Segment, part}
+use Rattle.layout.specs.Field.{Kind, N, NOrBlank, Id, T, F, D, Time, K, O, Zeros, Exact, OneOf, Service, Form, Barcode, RecordType, Segment, part}
 use Rattle.layout.specs.Table.{serviceField, formField}
 use Rattle.layout.specs.declared.Direction.{Direction}
 use Rattle.layout.specs.declared.Direction.the-variants.{Remittance, Return}
 
+-- whether a field's number is given in every record, or may be not given
+pub data Presence : Type 0 where
+  always perhaps : Presence
+
 -- as a number, as its bytes, or not at all: its content is fixed, at each width
 pub data Held : Type 0 where
-  asNumber asBytes : Held
+  aNumber : Presence → Held
+  asBytes : Held
   asFixed : (ℕ → List ℕ) → Held
+
+abbrev pub asNumber : Held
+asNumber = aNumber always
+
+abbrev pub asNumberIfGiven : Held
+asNumberIfGiven = aNumber perhaps
+
+-- held as a number that may be not given
+abbrev pub mayBeAbsent : Held → Bool
+mayBeAbsent (aNumber always) = false
+mayBeAbsent (aNumber perhaps) = true
+mayBeAbsent asBytes = false
+mayBeAbsent (asFixed content) = false
 
 -- a field in a record: its first place, its bytes, the whole record and the direction
 pub record Part : Type 0 where
@@ -66,6 +84,10 @@ isFixed content bs = same (content (length bs)) bs
 abbrev pub textFits : List ℕ → Bool
 textFits bs = not (eqb (getD bs 0 0) blank) || isFixed (run blank) bs
 
+-- all digits, or all blanks
+abbrev pub numberOrBlank : List ℕ → Bool
+numberOrBlank bs = allDigits bs || isFixed (run blank) bs
+
 -- one byte, of these
 abbrev pub oneOf : List ℕ → List ℕ → Bool
 oneOf domain bs = eqb (length bs) 1 && among (getD bs 0 0) domain
@@ -92,6 +114,7 @@ barcodeRules p = wrong 8 allDigits p ++ rule 14 (p .place + (currencyPlace - 1))
 -- a kind: how a field is held; the number where it is wrong, and what its bytes must be
 abbrev pub means : Kind → Meaning
 means N = row asNumber (wrong 8 allDigits)
+means NOrBlank = row asNumberIfGiven (wrong 8 numberOrBlank)
 means Id = row asBytes (wrong 8 allDigits)
 means T = row asBytes (wrong 13 textFits)
 means F = row asBytes (λ p. [])

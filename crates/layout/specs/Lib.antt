@@ -5,5 +5,6 @@ pub mod Table
 pub mod Names
 pub mod Kinds
 pub mod Record
+pub mod Examples
 pub mod laws
 pub mod inner

@@ -4,7 +4,7 @@ use mathlib.Core.List.{List, [], _∷_, _++_}
 use Prim.Native.Nat.{ℕ, suc}
 use lib.Dec.{leb, eqb}
 use Rattle.digits.specs.Digits.{digitByte}
-use Rattle.layout.specs.Field.{Kind, N, Id, T, F, D, Time, K, O, Zeros, Exact, OneOf, Service, Form, Barcode, RecordType, Segment, Field, field}
+use Rattle.layout.specs.Field.{Kind, N, NOrBlank, Id, T, F, D, Time, K, O, Zeros, Exact, OneOf, Service, Form, Barcode, RecordType, Segment, Field, field}
 use Rattle.layout.specs.Records.{shapeOf, records, isDetail, typeOf, letterOf, creditAmount, boletoAmount}
 use Rattle.layout.specs.declared.Record.{Record}
 use Rattle.layout.specs.declared.Record.the-variants.{FileHeader, BatchHeader, SegmentA, SegmentB, SegmentJ, SegmentJ52, SegmentZ, BatchTrailer, FileTrailer}
@@ -93,6 +93,16 @@ directionField = field 143 143 oneTwo
 abbrev pub movementField : Field
 movementField = field 15 15 zeroNine
 
+-- a credit: its date; and when the bank paid it and how much, a number each, not given until then
+abbrev pub creditDate : Field
+creditDate = field 94 101 D
+
+abbrev pub paidDate : Field
+paidDate = field 155 162 NOrBlank
+
+abbrev pub paidAmount : Field
+paidAmount = field 163 177 NOrBlank
+
 -- what a boleto pays by, beside its amount
 abbrev pub barcodeField : Field
 barcodeField = field 18 61 Barcode
@@ -135,8 +145,8 @@ own BatchHeader =
     ++ field 103 142 T ∷ field 143 172 T ∷ field 173 177 F ∷ field 178 192 T ∷ field 193 212 T ∷ field 213 230 F ∷ field 231 240 O ∷ []
 own SegmentA =
     movementField ∷ field 16 17 N ∷ field 18 20 N ∷ field 21 23 N ∷ field 24 28 N ∷ field 29 29 F ∷ field 30 41 N ∷ field 42 42 F
-    ∷ field 43 43 F ∷ field 44 73 T ∷ field 74 93 T ∷ field 94 101 D ∷ field 102 104 F ∷ field 105 119 N ∷ creditAmount ∷ field 135 154 F
-    ∷ field 155 162 N ∷ field 163 177 N ∷ field 178 230 F ∷ field 231 240 O ∷ []
+    ∷ field 43 43 F ∷ field 44 73 T ∷ field 74 93 T ∷ creditDate ∷ field 102 104 F ∷ field 105 119 N ∷ creditAmount ∷ field 135 154 F
+    ∷ paidDate ∷ paidAmount ∷ field 178 230 F ∷ field 231 240 O ∷ []
 own SegmentB = field 15 17 F ∷ field 18 18 zeroOneTwo ∷ field 19 32 Id ∷ field 33 240 F ∷ []
 own SegmentJ =
     movementField ∷ field 16 17 N ∷ barcodeField ∷ field 62 91 T ∷ dueField ∷ nominalField ∷ discountField ∷ fineField

@@ -4,5 +4,6 @@ pub mod Bytes
 pub mod Tiling
 pub mod Sound
 pub mod Contents
+pub mod Absent
 pub mod Columns
 pub mod Indexes

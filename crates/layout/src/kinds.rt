@@ -3,7 +3,8 @@ use super::fixed::BLANK;
 use super::fixed::Content;
 use super::fixed::ZERO;
 ghost use mathlib.Core.Path.{_≡_};
-ghost use Rattle.layout.specs.inner.Lent.{whole?, fillOf};
+ghost use Rattle.layout.specs.inner.Lent.{whole?, kindOf, fillOf};
+ghost use Rattle.layout.specs.Kinds.{mayBeAbsent, means};
 
 // The caller's number, the caller's text, or fixed content.
 pub enum Fill {
@@ -14,7 +15,7 @@ pub enum Fill {
 
 pub const N: u8 = 0;
 
-// From here to T: a rule for the field as a whole. All others have a rule for each byte alone, or none.
+// From here to T: a rule that asks more than the masks of a record tell.
 pub const D: u8 = 1;
 
 pub const TIME: u8 = 2;
@@ -48,14 +49,24 @@ pub const EXACT_09: u8 = 15;
 
 pub const EXACT_52: u8 = 16;
 
-// Any other number.
-pub const F: u8 = 17;
+// Digits, or blanks for a number that is not given.
+pub const N_OR_BLANK: u8 = 17;
 
-// Whether the kind's rule is one for the field as a whole.
+// Any other number.
+pub const F: u8 = 18;
+
+// Whether the kind's rule asks more than the masks of a record tell.
 pub fn is_whole(k: u8) -> bool
     ensures { λ r. ⌜ r ≡ whole? k ⌝ }
 {
     (D <= k) & (k <= T)
+}
+
+// Whether the kind is that of a number that may be not given.
+pub fn may_be_absent(k: u8) -> bool
+    ensures { λ r. ⌜ r ≡ mayBeAbsent (means (kindOf k) .held) ⌝ }
+{
+    k == N_OR_BLANK
 }
 
 // What a field of this kind is filled with.
@@ -83,6 +94,7 @@ pub fn fill_of(k: u8) -> Fill
         EXACT_C => Fill::Fixed(Content::LetterC),
         EXACT_09 => Fill::Fixed(Content::Code09),
         EXACT_52 => Fill::Fixed(Content::Code52),
+        N_OR_BLANK => Fill::Number,
         _ => Fill::Text,
     }
 }

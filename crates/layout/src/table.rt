@@ -11,6 +11,7 @@ use super::kinds::FORM;
 use super::kinds::ID;
 use super::kinds::K;
 use super::kinds::N;
+use super::kinds::N_OR_BLANK;
 use super::kinds::O;
 use super::kinds::ONE_TWO;
 use super::kinds::SERVICE;
@@ -409,8 +410,8 @@ pub const KIND: [u8; FIELDS] = [
     N,
     N,
     F,
-    N,
-    N,
+    N_OR_BLANK,
+    N_OR_BLANK,
     F,
     O,
     // B

@@ -49,6 +49,22 @@ fn number_of(text: &[u8]) -> Number
     Number::Not
 }
 
+fn is_blank(text: &[u8]) -> bool {
+    let mut i = 0;
+    while i < text.len() {
+        if text[i] != layout::BLANK {
+            return false;
+        }
+        i += 1;
+    }
+    true
+}
+
+// Whether a number is said to be not given, and may be.
+fn is_absent(text: &[u8], which: Record, field: usize) -> bool {
+    fields::may_be_absent(which, field) & is_blank(text)
+}
+
 fn count(which: Record) -> usize
     ensures { λ r. ⌜ r ≤ mostNumbers ⌝ }
 {
@@ -69,39 +85,50 @@ fn none(which: Record) -> Given {
     }
 }
 
-// The fields of a record that bytes give: so many numbers, and the text.
-pub(crate) fn fields_of(given: &[u8], which: Record, many: usize) -> Given
+// The fields of a record that bytes say: so many numbers, and the text.
+pub(crate) fn fields_of(said: &[u8], which: Record, many: usize) -> Given
     requires { ⌜ many ≤ mostNumbers ⌝ }
 {
     let numbers_end = many * NUMBER_DIGITS;
-    if given.len() != numbers_end + RECORD_BYTES {
+    if said.len() != numbers_end + RECORD_BYTES {
         return none(which);
     }
-    let mut numbers = [0u64; MOST_NUMBERS];
+    let text = text_of(&said[numbers_end..]);
+    let mut fields = Fields {
+        which,
+        numbers: [0; MOST_NUMBERS],
+        given: [true; MOST_NUMBERS],
+        text,
+    };
     let mut i = 0;
     while i < many {
         let start = i * NUMBER_DIGITS;
         let end = start + NUMBER_DIGITS;
-        let Number::Is(n) = number_of(&given[start..end]) else {
-            return none(which);
-        };
-        numbers[i] = n;
+        let part = &said[start..end];
+        match number_of(part) {
+            Number::Is(n) => {
+                fields = fields.with_number(Name(which, i), n);
+            }
+            Number::Not => {
+                if !is_absent(part, which, i) {
+                    return none(which);
+                }
+                fields = fields.not_given(Name(which, i));
+            }
+        }
         i += 1;
     }
-    let text = text_of(&given[numbers_end..]);
     Given {
         right: true,
-        fields: Fields {
-            which,
-            numbers,
-            text,
-        },
+        fields,
     }
 }
 
-fn print_number(n: Number) {
-    if let Number::Is(n) = n {
-        reply::spaced(n);
+// A number, or that it is not given.
+fn print_number(m: Number) {
+    match m {
+        Number::Is(n) => reply::spaced(n),
+        Number::Not => print::bytes(b" _"),
     }
 }
 

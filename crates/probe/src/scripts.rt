@@ -229,10 +229,12 @@ fn detail(call: &[u8], index: usize) -> Fields
 fn only_fields(call: &[u8], which: Record) -> Fields {
     let only = detail(call, 0);
     let numbers = only.numbers;
+    let given = only.given;
     let text = only.text;
     Fields {
         which,
         numbers,
+        given,
         text,
     }
 }

@@ -1,10 +1,10 @@
 -- The table of proved examples: thirteen, in one statement. Assumes nothing.
 use Rattle.layout.specs.Kinds.{same}
+use Rattle.layout.specs.Examples.{bytes}
 use mathlib.Core.Bool.{Bool, true, _&&_}
 use mathlib.Core.List.{List, [], _∷_}
-use Prim.Native.Char.{code}
 use Prim.Native.Nat.{ℕ}
-use Prim.Native.String.{String, [] as []ˢ, _∷_ as _∷ˢ_}
+use Prim.Native.String.{String}
 use lib.Dec.{T, eqb}
 use Rattle.answer.specs.Rules.{accepts, firstBroken}
 use Rattle.digits.specs.Digits.{leading, weighed}
@@ -15,11 +15,6 @@ use Rattle.calendar.specs.Due.{daysOfYears, dayNumber, dueDays, folded, factorO
 use Rattle.calendar.specs.declared.Date.{Date}
 use Rattle.boleto.specs.Strings.{digitLineOf}
 use Rattle.boleto.specs.Rules.{headRules, barcodeRules}
-
--- a text as its bytes
-abbrev pub bytes : String → List ℕ
-bytes []ˢ = []
-bytes (c ∷ˢ s) = code c ∷ bytes s
 
 pub data Example : Type 0 where
   fieldCheck : String → ℕ → Example

@@ -4,6 +4,7 @@ use mathlib.Core.Bool.{Bool, true, false, cond}
 use mathlib.Core.List.{List, [], _∷_}
 use Prim.Native.Nat.{ℕ}
 use native.Mathlib.Omega.{arith}
+use borrow.Author.Tests.{eqb-true}
 use lib.Dec.{T as Holds, ltb, eqb}
 use lib.ListN.{length, getD}
 use Rattle.answer.specs.Rules.{rule, firstBroken}
@@ -11,10 +12,11 @@ use Rattle.answer.specs.laws.Order.{past, done}
 use Rattle.answer.specs.declared.Answer.{Answer}
 use Rattle.answer.specs.declared.Answer.the-variants.{Accepted}
 use Rattle.digits.specs.Digits.{allDigits}
-use Rattle.layout.specs.inner.Lent.{firstLetter, mark?, kindOf, contentOf, mayBe}
-use Rattle.layout.specs.Field.{Kind, T as Txt, RecordType, Segment}
+use Rattle.layout.specs.inner.Lent.{nOrBlank, firstLetter, mark?, kindOf, contentOf, mayBe}
+use Rattle.layout.specs.Field.{Kind, NOrBlank, T as Txt, RecordType, Segment}
 use Rattle.layout.specs.Kinds.{Part, means, wrong, isFixed, same, blank}
-use Rattle.walk.specs.inner.Steps.{Looked, for-digits, for-content, tested, markLook, textLook}
+use Rattle.walk.specs.inner.Steps.{Looked, for-digits, for-content, tested, markLook, textLook, numberOrBlankLook}
+use Rattle.layout.specs.laws.Bytes.{blanks-asked, digits-asked}
 use Rattle.layout.specs.laws.Contents.{run-is, exact-is}
 use Rattle.layout.specs.declared.fixed.Content.{Content}
 use Rattle.layout.specs.declared.fixed.Content.the-variants.{Run}
@@ -52,6 +54,14 @@ for-blank {k} {p} e q = at-key e (subst⁻¹ (λ (y : Look). Looked Txt p y) q (
     go : (b : Bool) → eqb (getD (p .bytes) 0 0) blank ≡ b → Looked Txt p (cond b (Fixed 13 (Run blank)) (Tested Accepted))
     go true q = for-content {number = 13} {c = Run blank} (rw (run-is blank (length (p .bytes)), q))
     go false q = tested (past _ _ _ _ _ (rw q) done)
+
+-- a number that may be not given: its first byte tells whether digits or blanks are asked
+pub for-number-or-blank : {k : ℕ} {p : Part} {x : Look} → k ≡ nOrBlank → x ≡ numberOrBlankLook (p .bytes) → Looked (kindOf k) p x
+for-number-or-blank {k} {p} e q = at-key e (subst⁻¹ (λ (y : Look). Looked NOrBlank p y) q (go (eqb (getD (p .bytes) 0 0) blank) refl))
+  where
+    go : (b : Bool) → eqb (getD (p .bytes) 0 0) blank ≡ b → Looked NOrBlank p (cond b (Fixed 8 (Run blank)) Digits)
+    go true q = for-content {number = 8} {c = Run blank} (rw (run-is blank (length (p .bytes)), blanks-asked (p .bytes) (eqb-true _ _ q)))
+    go false q = for-digits (rw (digits-asked (p .bytes) q))
 
 -- ---- what a look says, by its case
 

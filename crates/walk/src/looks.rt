@@ -11,13 +11,13 @@ use layout::places;
 ghost use mathlib.Core.Path.{_≡_};
 ghost use mathlib.Core.List.{[]};
 ghost use Prim.Native.Nat.{_≤_};
-ghost use lib.Dec.{T as Holds};
-ghost use lib.ListN.{length};
+ghost use lib.Dec.{T as Holds, eqb};
+ghost use lib.ListN.{length, getD};
 ghost use Rattle.answer.specs.Rules.{firstBroken};
 ghost use Rattle.layout.specs.inner.Lent.{kindOf, mayBe};
 ghost use Rattle.layout.specs.Table.{recordBytes};
-ghost use Rattle.layout.specs.Kinds.{aPart, oneOf, pairRule, barcodeRules};
-ghost use Rattle.walk.specs.inner.Steps.{Looked, markLook, textLook};
+ghost use Rattle.layout.specs.Kinds.{aPart, oneOf, pairRule, barcodeRules, blank};
+ghost use Rattle.walk.specs.inner.Steps.{Looked, markLook, textLook, numberOrBlankLook};
 ghost use Rattle.layout.specs.declared.Direction.the-variants.{Remittance};
 ghost use Rattle.walk.specs.declared.looks.Look.the-variants.{Fixed};
 
@@ -91,20 +91,39 @@ fn mark(k: u8) -> Look
     }
 }
 
+fn begins_blank(part: &[u8]) -> bool
+    ensures { λ r. ⌜ r ≡ eqb (getD (now (part .entry)) 0 0) blank ⌝ }
+{
+    if part.len() == 0 {
+        return false;
+    }
+    part[0] == BLANK
+}
+
 // Text has to be looked at only where its first byte is blank.
 fn text(part: &[u8]) -> Look
     ensures { λ r. ⌜ r ≡ textLook (now (part .entry)) ⌝ }
 {
-    if part.len() == 0 {
-        return Look::Tested(Answer::Accepted);
+    if begins_blank(part) {
+        return Look::Fixed {
+            number: numbers::TEXT,
+            content: Content::Run(BLANK),
+        };
     }
-    if part[0] != BLANK {
-        return Look::Tested(Answer::Accepted);
+    Look::Tested(Answer::Accepted)
+}
+
+// A number that may be not given: its first byte says whether blanks or digits have to follow.
+fn number_or_blank(part: &[u8]) -> Look
+    ensures { λ r. ⌜ r ≡ numberOrBlankLook (now (part .entry)) ⌝ }
+{
+    if begins_blank(part) {
+        return Look::Fixed {
+            number: numbers::NON_DIGIT,
+            content: Content::Run(BLANK),
+        };
     }
-    Look::Fixed {
-        number: numbers::TEXT,
-        content: Content::Run(BLANK),
-    }
+    Look::Digits
 }
 
 fn fixed(content: Content) -> Look
@@ -151,6 +170,7 @@ pub(crate) fn look_at(k: u8, dir: Direction, part: &[u8], rec: &[u8], place: usi
         // The pair has been asked at the service.
         kinds::FORM => Look::Tested(Answer::Accepted),
         kinds::BARCODE => Look::Tested(barcode(part, place)),
+        kinds::N_OR_BLANK => number_or_blank(part),
         _ => Look::Tested(Answer::Accepted),
     }
 }

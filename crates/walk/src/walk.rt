@@ -40,7 +40,7 @@ fn field_at(from: &[u8; FIELDS], to: &[u8; FIELDS], kind: &[u8; FIELDS], f: usiz
 }
 
 // The rules of the fields from `first` up to `past`. Where the record lies between its masks, a field
-// with a rule for each byte alone is right, and is not looked at.
+// whose rule asks no more than they tell is right, and is not looked at.
 fn walk(
     from: &[u8; FIELDS],
     to: &[u8; FIELDS],

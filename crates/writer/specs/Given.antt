@@ -10,7 +10,7 @@ use Rattle.layout.specs.Table.{movementField}
 use Rattle.layout.specs.Names.{indexOf}
 use Rattle.layout.specs.declared.Record.{Record}
 use Rattle.layout.specs.declared.Record.the-variants.{FileHeader, BatchHeader, SegmentZ, BatchTrailer, FileTrailer}
-use Rattle.fields.specs.Values.{noFields, takenAs, nth}
+use Rattle.fields.specs.Values.{noFields, takenAs, nth, orZero}
 use Rattle.fields.specs.declared.Fields.{Fields}
 use Rattle.checker.specs.Totals.{tally, live, withdrawn, totals, withdrawal, only}
 use Rattle.checker.specs.declared.totals.Totals.{Totals}
@@ -49,9 +49,10 @@ recordsOf (closeFile v) = takenAs FileTrailer v ∷ []
 
 -- ---- a payment: its first record gives its amount, and its movement
 
+-- 0 where it is not given, and no such payment is accepted (the law `number-given`)
 abbrev pub givenIn : Record → List Field → Fields → ℕ
 givenIn r [] v = 0
-givenIn r (f ∷ fs) v = nth (indexOf r f) v
+givenIn r (f ∷ fs) v = orZero (nth (indexOf r f) v)
 
 abbrev pub amountOf : Record → Fields → ℕ
 amountOf r v = givenIn r (amountsOf r) v
@@ -61,7 +62,7 @@ amountIn p = amountOf (p .first .which) (p .first)
 
 -- movement 9 withdraws it
 abbrev pub withdrawsAs : Record → Fields → Bool
-withdrawsAs r v = eqb (nth (indexOf r movementField) v) withdrawal
+withdrawsAs r v = eqb (orZero (nth (indexOf r movementField) v)) withdrawal
 
 abbrev pub isWithdrawn : Payment → Bool
 isWithdrawn p = withdrawsAs (p .first .which) (p .first)

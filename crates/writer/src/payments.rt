@@ -10,6 +10,7 @@ use answer::numbers;
 use checker::Checker;
 use checker::LINE_BYTES;
 use checker::Reading;
+use digits::Number;
 use fields::Fields;
 use fields::Made;
 use layout::Amount;
@@ -17,6 +18,7 @@ use layout::Batch;
 use layout::Direction;
 use layout::Record;
 use layout::names;
+use layout::names::Name;
 ghost use mathlib.Core.Path.{_≡_};
 ghost use mathlib.Core.Bool.{true};
 ghost use mathlib.Core.List.{_∷_, [], _++_, flatten};
@@ -24,6 +26,7 @@ ghost use Prim.Native.Nat.{_≤_, _<_};
 ghost use lib.ListN.{length, take, drop};
 ghost use Rattle.answer.specs.Rules.{firstBroken};
 ghost use Rattle.layout.specs.Records.{isOneOf};
+ghost use Rattle.fields.specs.Values.{orZero, numberAt};
 ghost use Rattle.checker.specs.Machine.{sound, mostDetails};
 ghost use Rattle.writer.specs.Given.{amountOf};
 ghost use Rattle.writer.specs.Refusals.{zIn, sumRule, size};
@@ -62,6 +65,16 @@ fn is_expected(which: Record, dir: Direction, batch: Batch, position: u8) -> boo
     }
 }
 
+// The cents of a field; 0 where they are not given, and no record is right without its amount.
+fn cents_at(v: Fields, name: Name) -> Cents
+    ensures { λ r. ⌜ r .0 ≡ orZero (numberAt name v) ⌝ }
+{
+    match v.number_at(name) {
+        Number::Is(n) => Cents(n),
+        Number::Not => Cents(0),
+    }
+}
+
 // The amount of a payment stands in its first record.
 fn amount_of(v: Fields) -> Cents
     ensures { λ r. ⌜ r .0 ≡ amountOf (v .which) v ⌝ }
@@ -70,8 +83,8 @@ fn amount_of(v: Fields) -> Cents
     let amount = layout::shape_of(which).amount;
     match amount {
         Amount::NoAmount => Cents(0),
-        Amount::AmountOfA => v.cents_at(names::A_AMOUNT),
-        Amount::AmountOfJ => v.cents_at(names::J_AMOUNT),
+        Amount::AmountOfA => cents_at(v, names::A_AMOUNT),
+        Amount::AmountOfJ => cents_at(v, names::J_AMOUNT),
     }
 }
 

@@ -2,10 +2,10 @@
 //! other, and steps between them that change what memory the calls are lent.
 
 use crate::asking::probe::{six_digits, untouched};
-use crate::asking::values::{sent_number, DIGITS_OF_A_VALUE};
+use crate::asking::values::{sent_number, NoNumber, DIGITS_OF_A_VALUE};
 use crate::paper::answers::{Answer, AnswerLine};
 use crate::paper::lines::RECORD_BYTES;
-use crate::paper::record_kinds::RECORD_KINDS;
+use crate::paper::record_kinds::{RecordKind, RECORD_KINDS};
 use crate::paper::records::Values;
 use crate::paper::writer::Output;
 use crate::paper::writer_calls::{CallKind, GivenRecord, WriterCall, CALL_KINDS};
@@ -55,19 +55,22 @@ pub enum Misfit {
     UnknownLetter,
     WrongCount,
     UnknownKind,
-    NonDigit,
-    NumberTooLarge,
+    /// The kind is the one that the caller names, by its code.
+    NoNumber {
+        kind: char,
+        index: usize,
+        reason: NoNumber,
+    },
     CutShort,
     NoBytesToLend,
     NoByteToOverwriteWith,
 }
 
-pub const MISFITS: [Misfit; 8] = [
+/// Those about numbers, which are several, stand elsewhere.
+pub const OTHER_MISFITS: [Misfit; 6] = [
     Misfit::UnknownLetter,
     Misfit::WrongCount,
     Misfit::UnknownKind,
-    Misfit::NonDigit,
-    Misfit::NumberTooLarge,
     Misfit::CutShort,
     Misfit::NoBytesToLend,
     Misfit::NoByteToOverwriteWith,
@@ -195,7 +198,7 @@ impl<'a> Rest<'a> {
         let mut kinds = RECORD_KINDS.into_iter();
         let kind = kinds.find(|kind| kind.code() == code);
         let kind = kind.ok_or(Misfit::UnknownKind)?;
-        let numbers = (0..NUMBERS_OF_A_RECORD).map(|_| self.number());
+        let numbers = (0..NUMBERS_OF_A_RECORD).map(|index| self.number(kind, index));
         let numbers = numbers.collect::<Result<_, _>>()?;
         let text = self.next_bytes(RECORD_BYTES).ok_or(Misfit::CutShort)?;
         let text = text.to_vec();
@@ -203,12 +206,15 @@ impl<'a> Rest<'a> {
         Ok(GivenRecord { kind, values })
     }
 
-    fn number(&mut self) -> Result<u64, Misfit> {
-        let digits = self.next_bytes(DIGITS_OF_A_VALUE);
-        let digits = digits.ok_or(Misfit::CutShort)?;
-        if !digits.iter().all(u8::is_ascii_digit) {
-            return Err(Misfit::NonDigit);
-        }
-        sent_number(digits).ok_or(Misfit::NumberTooLarge)
+    /// Nothing for a number that is not given. The kind that the caller names
+    /// says which may be, whatever the call makes of the record.
+    fn number(&mut self, kind: RecordKind, index: usize) -> Result<Option<u64>, Misfit> {
+        let sent = self.next_bytes(DIGITS_OF_A_VALUE);
+        let sent = sent.ok_or(Misfit::CutShort)?;
+        sent_number(kind, index, sent).map_err(|reason| Misfit::NoNumber {
+            kind: char::from(kind.code()),
+            index,
+            reason,
+        })
     }
 }

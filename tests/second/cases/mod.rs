@@ -2,6 +2,8 @@
 //! limits of document 01. The rules of the papers alone make them, so that a
 //! seeded fault changes what is expected and never what is asked.
 
+pub mod absence_cases;
+pub mod absence_file_cases;
 pub mod digit_cases;
 pub mod due_cases;
 pub mod file_cases;
@@ -13,6 +15,7 @@ pub mod part_cut_cases;
 pub mod part_order_cases;
 pub mod record_cases;
 pub mod record_write_cases;
+pub mod script_absence_cases;
 pub mod script_cases;
 pub mod script_field_cases;
 pub mod script_kind_cases;

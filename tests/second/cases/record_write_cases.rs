@@ -116,7 +116,7 @@ impl WriteCases<'_> {
             let mut values = self.values(subject);
             for (index, field) in table::fields(subject.kind).into_iter().enumerate() {
                 if !field.is_number() {
-                    values.numbers[index] = self.random.pick(&[1, u64::MAX, 1 << 63]);
+                    values.numbers[index] = Some(self.random.pick(&[1, u64::MAX, 1 << 63]));
                 }
                 if field.is_number() || field.fixed_content().is_some() {
                     let bytes = (0..field.width()).map(|_| self.random.byte());
@@ -134,7 +134,7 @@ impl WriteCases<'_> {
             let too_wide = first_too_wide(field);
             for _ in 0..2 {
                 let values = self.values(subject);
-                let good = values.numbers[index];
+                let good = values.numbers[index].unwrap_or(0);
                 for number in [too_wide - 1, too_wide, too_wide + good, u64::MAX] {
                     self.ask_number(subject, &values, index, number);
                 }
@@ -144,7 +144,7 @@ impl WriteCases<'_> {
 
     fn ask_number(&mut self, subject: Subject, good: &Values, index: usize, number: u64) {
         let mut values = good.clone();
-        values.numbers[index] = number;
+        values.numbers[index] = Some(number);
         self.ask_with_room(subject, &values);
     }
 
@@ -222,7 +222,7 @@ impl WriteCases<'_> {
         }
         if has(WIDE_NUMBER) {
             let (index, field) = self.random.pick(&number_fields(subject.kind));
-            values.numbers[index] = first_too_wide(field);
+            values.numbers[index] = Some(first_too_wide(field));
         }
         if has(WRONG_BYTE) {
             let at = self.random.below(RECORD_BYTES);
@@ -244,8 +244,8 @@ impl WriteCases<'_> {
                 let mut values = self.values(subject);
                 for (index, field) in number_fields(kind) {
                     match field.entry {
-                        Entry::Service => values.numbers[index] = service,
-                        Entry::Form => values.numbers[index] = form,
+                        Entry::Service => values.numbers[index] = Some(service),
+                        Entry::Form => values.numbers[index] = Some(form),
                         _ => {}
                     }
                 }

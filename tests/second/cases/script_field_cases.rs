@@ -62,10 +62,10 @@ impl ScriptCases<'_> {
         for (index, field) in given_numbers(subject.kind) {
             self.ask_changed(subject, |cases, frame| {
                 let number = &mut frame.record_mut().values.numbers[index];
-                *number = cases.random.pick(&wide_numbers(field, *number));
+                *number = Some(cases.random.pick(&wide_numbers(field, *number)));
             });
             self.ask_changed(subject, |_, frame| {
-                frame.record_mut().values.numbers[index] = first_too_wide(field) - 1;
+                frame.record_mut().values.numbers[index] = Some(first_too_wide(field) - 1);
             });
         }
     }
@@ -82,7 +82,7 @@ impl ScriptCases<'_> {
             for _ in 0..KNOWN_NUMBERS {
                 self.ask_changed(subject, |cases, frame| {
                     let number = cases.random.pick(&numbers);
-                    frame.record_mut().values.numbers[index] = number;
+                    frame.record_mut().values.numbers[index] = Some(number);
                 });
             }
         }
@@ -120,7 +120,7 @@ impl ScriptCases<'_> {
                 _ => self.random.pick(&DIRECTIONS),
             };
             self.ask_changed(Subject { kind, direction }, |_, frame| {
-                frame.record_mut().values.numbers[index] = u64::MAX;
+                frame.record_mut().values.numbers[index] = Some(u64::MAX);
             });
         }
     }
@@ -132,8 +132,8 @@ impl ScriptCases<'_> {
                 for (index, field) in given_numbers(kind) {
                     let number = &mut frame.record_mut().values.numbers[index];
                     match field.entry {
-                        Entry::Service => *number = cases.random.pick(&SERVICES),
-                        Entry::Form => *number = cases.random.pick(&FORMS),
+                        Entry::Service => *number = Some(cases.random.pick(&SERVICES)),
+                        Entry::Form => *number = Some(cases.random.pick(&FORMS)),
                         _ => {}
                     }
                 }

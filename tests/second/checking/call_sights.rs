@@ -8,7 +8,7 @@ use crate::paper::layout_table::{self as table, Entry, Field};
 use crate::paper::lines::LINE_BYTES;
 use crate::paper::record_kinds::RecordKind;
 use crate::paper::record_rules::Refusal;
-use crate::paper::records::{first_too_wide, number_of, Values};
+use crate::paper::records::{first_too_wide, number_at, Values};
 use crate::paper::writer_calls::WriterCall;
 use crate::paper::writer_order::Row;
 
@@ -84,7 +84,7 @@ impl SeenCall<'_> {
         let mut sights = Vec::new();
         for (record, kind) in self.call.records.iter().zip(self.call.kinds()) {
             let numbers = record.values.numbers.iter().enumerate();
-            let largest = numbers.filter(|(_, number)| **number == u64::MAX);
+            let largest = numbers.filter(|(_, number)| **number == Some(u64::MAX));
             sights.extend(largest.map(|(index, _)| Sight::LargestNumber {
                 kind: code(kind),
                 index,
@@ -124,14 +124,14 @@ impl SeenCall<'_> {
             let kind = code(kind);
             for (index, field) in fields {
                 let number = record.values.numbers[index];
-                if field.is_number() && number != number_of(field.of(line)) {
-                    sights.push(if number >= first_too_wide(field) {
+                if field.is_number() && number != number_at(field, line) {
+                    sights.push(if number >= Some(first_too_wide(field)) {
                         Sight::WideNumberIgnored { kind, index }
                     } else {
                         Sight::OtherNumberIgnored { kind, index }
                     });
                 }
-                if field.is_number() && number == first_too_wide(field) - 1 {
+                if field.is_number() && number == Some(first_too_wide(field) - 1) {
                     sights.push(Sight::AllNines { kind, index });
                 }
                 let text = field.of(&record.values.text);
@@ -159,7 +159,7 @@ fn wide_numbers(kind: RecordKind, refused: Field, values: &Values) -> Vec<Sight>
     let wide = numbers.filter(|(index, field)| {
         let at_service = refused.entry == Entry::Service && field.entry == Entry::Form;
         let meant = *field == refused || at_service;
-        meant && values.numbers[*index] >= first_too_wide(*field)
+        meant && values.numbers[*index] >= Some(first_too_wide(*field))
     });
     let kind = code(kind);
     wide.map(|(index, _)| Sight::TooWide { kind, index })

@@ -109,8 +109,8 @@ impl Hunt {
     fn drop_caught(&mut self, request: &Request, came: &Reply) {
         let number = self.requests;
         self.faults.retain(|(name, fault)| {
-            let mistaken = mistaken_answer(request, *fault);
-            let caught = mistaken.reply_beside(came) != *came;
+            let caught = fault.is_about(request)
+                && mistaken_answer(request, *fault).reply_beside(came) != *came;
             if caught {
                 println!("fault {name} caught at request {number}");
             }

@@ -2,6 +2,10 @@
 //! `paper`; what a run has to show is counted, so that a sort of case that no
 //! longer comes up is noticed; and every fault of `sown` has to be caught.
 
+pub mod absence_claims;
+pub mod absence_demands;
+pub mod absence_sights;
+pub mod absence_tally;
 pub mod call_sights;
 pub mod digit_claims;
 pub mod due_claims;

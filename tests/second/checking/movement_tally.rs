@@ -205,10 +205,10 @@ impl MovementTally {
 }
 
 /// Of an acceptance's six numbers the last four.
-pub fn counted(numbers: &[Option<u64>]) -> Option<Counted> {
-    let numbers: [Option<u64>; 6] = numbers.try_into().ok()?;
+pub fn counted(numbers: &[u64]) -> Option<Counted> {
+    let numbers: [u64; 6] = numbers.try_into().ok()?;
     let [_, _, four @ ..] = numbers;
-    Some(four.map(|number| number != Some(0)))
+    Some(four.map(|number| number != 0))
 }
 
 fn direction_of(lines: &[&[u8]]) -> char {

@@ -65,7 +65,7 @@ fn said_behind(end: Verdict) -> Verdict {
 /// A refusal names the line behind them.
 fn accepted_lines(whole: &AnswerLine) -> u64 {
     match whole.verdict {
-        Verdict::Accepted => whole.numbers[RECORDS_AT].unwrap_or(0),
+        Verdict::Accepted => whole.numbers[RECORDS_AT],
         Verdict::Refused { line, .. } => line - 1,
     }
 }

@@ -12,7 +12,7 @@ use crate::paper::totals::Movement;
 
 const FORM: Part = part(12, 13);
 
-const DEMANDED: [&str; 29] = [
+const DEMANDED: [&str; 33] = [
     "form 01",
     "form 10",
     "form 41",
@@ -42,6 +42,10 @@ const DEMANDED: [&str; 29] = [
     "filled T",
     "blank O in a return",
     "filled O in a return",
+    "blank number in a remittance",
+    "filled number in a remittance",
+    "blank number in a return",
+    "filled number in a return",
 ];
 
 /// The names of what no sample shows.
@@ -103,6 +107,9 @@ fn sights_of_fields(line: &MadeLine, direction: &str) -> Vec<String> {
         }
         if field.entry == Entry::BlankInRemittance {
             sights.push(format!("{blank} O in a {direction}"));
+        }
+        if field.entry == Entry::OptionalNumber {
+            sights.push(format!("{blank} number in a {direction}"));
         }
     }
     sights

@@ -1,7 +1,8 @@
 //! What the scripts of a run have to show, so that a sort of script which no
 //! longer comes up is noticed.
 
-use crate::asking::writer_script::{MISFITS, NUMBERS_OF_A_RECORD};
+use crate::asking::values::NO_NUMBERS;
+use crate::asking::writer_script::{NUMBERS_OF_A_RECORD, OTHER_MISFITS};
 use crate::cases::script_kind_cases::POSITIONS;
 use crate::cases::script_turn_cases::{Standing, STANDINGS};
 use crate::checking::movement_tally::{COUNTED, MIXES};
@@ -37,7 +38,8 @@ pub fn demanded() -> Vec<Sight> {
     sights.extend(movements());
     let going_on = NUMBERS_BEFORE_GOING_ON.into_iter().chain([51]);
     sights.extend(going_on.map(|number| Sight::AcceptedBehind { number }));
-    sights.extend(MISFITS.map(|misfit| Sight::NoScript { misfit }));
+    sights.extend(NO_NUMBERS.map(|reason| Sight::NoNumber { reason }));
+    sights.extend(OTHER_MISFITS.map(|misfit| Sight::NoScript { misfit }));
     sights.push(Sight::NoCall);
     sights
 }
@@ -54,7 +56,7 @@ fn faults_of(kind: RecordKind) -> Vec<Sight> {
         };
         let (kind, place) = (code(kind), field.first);
         sights.push(Sight::TooWide { kind, index });
-        if field.entry == Entry::Number {
+        if matches!(field.entry, Entry::Number | Entry::OptionalNumber) {
             sights.push(Sight::AllNines { kind, index });
         }
         sights.extend(number.map(|number| Sight::Fault {

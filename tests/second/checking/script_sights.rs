@@ -1,5 +1,6 @@
 //! What can be seen in the scripts of a run.
 
+use crate::asking::values::NoNumber;
 use crate::asking::writer_script::Misfit;
 use crate::cases::script_turn_cases::Standing;
 use crate::checking::movement_tally::{Counted, Mix};
@@ -146,9 +147,22 @@ pub enum Sight {
         counted: Counted,
     },
     NoCall,
+    /// Whichever number it is that is none.
+    NoNumber {
+        reason: NoNumber,
+    },
     NoScript {
         misfit: Misfit,
     },
+}
+
+impl Sight {
+    pub fn of_misfit(misfit: Misfit) -> Sight {
+        match misfit {
+            Misfit::NoNumber { reason, .. } => Sight::NoNumber { reason },
+            _ => Sight::NoScript { misfit },
+        }
+    }
 }
 
 pub fn code(kind: RecordKind) -> char {

@@ -48,7 +48,7 @@ impl ScriptTally {
         self.scripts += 1;
         match script {
             Ok(script) => self.count_steps(script, room),
-            Err(misfit) => self.see([Sight::NoScript { misfit: *misfit }]),
+            Err(misfit) => self.see([Sight::of_misfit(*misfit)]),
         }
     }
 
@@ -327,5 +327,5 @@ fn given_amount(call: &WriterCall) -> u64 {
     let fields = table::fields(first.kind).into_iter();
     let mut numbers = fields.zip(&first.values.numbers);
     let given = numbers.find(|(field, _)| Some(field.first) == amount.map(|part| part.first));
-    given.map_or(0, |(_, number)| *number)
+    given.and_then(|(_, number)| *number).unwrap_or(0)
 }

@@ -6,6 +6,7 @@ use std::fmt;
 
 use crate::asking::probe::{Call, Op, Request};
 use crate::asking::replies::MALFORMED;
+use crate::checking::absence_tally::AbsenceTally;
 use crate::checking::due_tally::DueTally;
 use crate::checking::movement_tally::MovementTally;
 use crate::checking::part_tally::PartTally;
@@ -69,6 +70,7 @@ pub struct Tally {
     movements: MovementTally,
     scripts: ScriptTally,
     parts: PartTally,
+    absences: AbsenceTally,
 }
 
 impl Tally {
@@ -79,6 +81,7 @@ impl Tally {
             let key = (answer_name(line.verdict), column);
             *self.seen.entry(key).or_default() += 1;
         }
+        self.absences.count(request, answer);
         match request.call() {
             Some(Call::CheckFile) => {
                 self.dues.count(&request.payload, answer);
@@ -123,6 +126,7 @@ impl Tally {
         gaps.extend(self.movements.gaps());
         gaps.extend(self.scripts.gaps());
         gaps.extend(self.parts.gaps());
+        gaps.extend(self.absences.gaps());
         gaps
     }
 }
@@ -177,6 +181,7 @@ impl fmt::Display for Tally {
             self.movements.summary(),
             self.scripts.summary(),
             self.parts.summary(),
+            self.absences.summary(),
         ];
         write!(out, "\n{}", summaries.join("\n"))
     }

@@ -3,7 +3,7 @@
 
 use crate::cases::streams;
 use crate::checking::tally::Tally;
-use crate::checking::{digit_claims, file_claims, record_claims, writer_claims};
+use crate::checking::{absence_claims, digit_claims, file_claims, record_claims, writer_claims};
 use crate::comparing::compare;
 
 /// Says what agrees, or how the first request that does not is answered.
@@ -11,6 +11,7 @@ pub fn check(command: &[String]) -> Result<(), String> {
     let barcodes = streams::accepted_barcodes();
     let guarded = digit_claims::check(&barcodes)?;
     let fixed_refused = record_claims::check()?;
+    let absent = absence_claims::check()?;
     let files_refused = file_claims::check()?;
     let files_written = writer_claims::check()?;
     let mut tally = Tally::default();
@@ -28,6 +29,10 @@ pub fn check(command: &[String]) -> Result<(), String> {
         guarded.unguarded_accepted_in_barcodes, guarded.unguarded_accepted_in_lines
     );
     println!("changed bytes at fixed places of records, all refused: {fixed_refused}");
+    println!(
+        "changed bytes of numbers that may be not given: {} accepted, {} refused",
+        absent.accepted, absent.refused
+    );
     println!("changed bytes at guarded places of files, all refused: {files_refused}");
     println!("files written as they are made, byte for byte: {files_written}");
     println!("{tally}");

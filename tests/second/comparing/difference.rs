@@ -5,6 +5,7 @@ use std::fmt;
 use crate::asking::probe::{Call, Request};
 use crate::asking::replies::Reply;
 use crate::asking::writer_script::Step;
+use crate::paper::answers::FieldValue;
 use crate::paper::lines::LINE_BYTES;
 use crate::paper::parts::PartCall;
 use crate::paper::writer_calls::WriterCall;
@@ -94,7 +95,11 @@ fn show_call(out: &mut fmt::Formatter, call: &WriterCall) -> fmt::Result {
     writeln!(out, "  call {}", char::from(call.kind.code()))?;
     for record in &call.records {
         let kind = char::from(record.kind.code());
-        writeln!(out, "    {kind} {:?}", record.values.numbers)?;
+        let numbers = record.values.numbers.iter();
+        let numbers: Vec<String> = numbers
+            .map(|number| FieldValue::of_number(*number).to_string())
+            .collect();
+        writeln!(out, "    {kind} {}", numbers.join(" "))?;
         writeln!(out, "      {}", shown(&record.values.text))?;
     }
     Ok(())

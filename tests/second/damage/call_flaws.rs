@@ -31,7 +31,7 @@ pub fn fields_to_spoil(subject: Subject) -> Vec<(usize, Field)> {
 pub fn spoil_field(random: &mut Random, (index, field): (usize, Field), values: &mut Values) {
     if field.is_number() {
         let good = values.numbers[index];
-        values.numbers[index] = wrong_number(random, field, good);
+        values.numbers[index] = Some(wrong_number(random, field, good));
     } else if field.entry == Entry::Barcode && random.coin() {
         let currency = &mut values.text[BARCODE_CHECK.first - 2];
         *currency = random.other_digit(*currency);
@@ -42,7 +42,7 @@ pub fn spoil_field(random: &mut Random, (index, field): (usize, Field), values: 
 }
 
 /// Too wide for the field, or what no date, time or domain has.
-fn wrong_number(random: &mut Random, field: Field, good: u64) -> u64 {
+fn wrong_number(random: &mut Random, field: Field, good: Option<u64>) -> u64 {
     let known = match field.entry {
         Entry::Date => numbers_in(NO_DATES),
         Entry::Time => numbers_in(NO_TIMES),
@@ -60,9 +60,9 @@ fn wrong_number(random: &mut Random, field: Field, good: u64) -> u64 {
 
 /// Numbers with more digits than the field; those of the given one stand at the
 /// end of some, unless it has too many already.
-pub fn wide_numbers(field: Field, given: u64) -> Vec<u64> {
+pub fn wide_numbers(field: Field, given: Option<u64>) -> Vec<u64> {
     let too_wide = first_too_wide(field);
-    let good = given % too_wide;
+    let good = given.unwrap_or(0) % too_wide;
     let numbers = [
         too_wide,
         too_wide + good,

@@ -42,6 +42,11 @@ pub fn bytes_of(call: &WriterCall) -> usize {
     BYTES_BEFORE_RECORDS + call.records.len() * BYTES_OF_A_RECORD
 }
 
+/// Where in a call a number of one of its records stands.
+pub fn start_of_number(record: usize, index: usize) -> usize {
+    BYTES_BEFORE_RECORDS + record * BYTES_OF_A_RECORD + 1 + index * DIGITS_OF_A_VALUE
+}
+
 fn letter(random: &mut Random, payload: &mut Vec<u8>, at: usize) {
     payload[at] = random.pick(LETTERS_TO_TRY);
 }
@@ -66,12 +71,12 @@ fn non_digit(random: &mut Random, payload: &mut Vec<u8>, at: usize) {
     let digits = NUMBERS_OF_A_RECORD * DIGITS_OF_A_VALUE;
     let inside = random.below(digits);
     let digit = random.pick(&[0, inside, digits - 1]);
-    payload[at + BYTES_BEFORE_RECORDS + 1 + digit] = random.pick(NO_DIGITS_TO_TRY);
+    payload[at + start_of_number(0, 0) + digit] = random.pick(NO_DIGITS_TO_TRY);
 }
 
 fn number_too_large(random: &mut Random, payload: &mut Vec<u8>, at: usize) {
     let index = random.below(NUMBERS_OF_A_RECORD);
-    let begin = at + BYTES_BEFORE_RECORDS + 1 + index * DIGITS_OF_A_VALUE;
+    let begin = at + start_of_number(0, index);
     let number = random.pick(&NUMBERS_OVER_64_BITS);
     payload[begin..][..DIGITS_OF_A_VALUE].copy_from_slice(number);
 }

@@ -1,6 +1,8 @@
 //! What can be wrong: fields, lines, files, calls, scripts and requests spoiled
 //! on purpose, and single bytes changed in accepted input.
 
+pub mod absence_flaws;
+pub mod absence_requests;
 pub mod call_flaws;
 pub mod changes;
 pub mod digit_flaws;

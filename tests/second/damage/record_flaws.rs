@@ -4,11 +4,13 @@
 use crate::making::random::Random;
 use crate::paper::layout_table::{self as table, Entry, Field};
 use crate::paper::record_kinds::{Direction, Subject};
+use crate::paper::record_rules::all_blank;
 
 /// Both ends of what is printable and of the digits, with their neighbours.
 pub const BYTES_TO_TRY: &[u8] = b" !/09:A~\x1F\x7F";
 pub const UNPRINTABLE: &[u8] = b"\x00\n\r\x1F\x7F\x80\xFF";
 const PRINTABLE_NON_DIGITS: &[u8] = b" /:A-~";
+const PRINTABLE_NON_BLANKS: &[u8] = b"0195/:A-~";
 /// What a field of one place may hold or be mistaken to hold.
 pub const CODES: &[u8] = b"0123456789ABCJZ abjz";
 
@@ -78,6 +80,9 @@ pub fn spoil(random: &mut Random, field: Field, record: &mut [u8]) {
         }
         Entry::Exact(_) | Entry::Blank | Entry::BlankInRemittance => {
             record[at] = other_than(random, &[record[at]]);
+        }
+        Entry::OptionalNumber if all_blank(field.of(record)) => {
+            record[at] = random.pick(PRINTABLE_NON_BLANKS);
         }
         _ => record[at] = random.pick(PRINTABLE_NON_DIGITS),
     }

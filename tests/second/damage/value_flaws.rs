@@ -23,7 +23,7 @@ pub fn spoil_value(random: &mut Random, subject: Subject, field: Field, values: 
     let fields = number_fields(subject.kind).into_iter();
     let number = wrong_number(random, field);
     for (index, _) in fields.filter(|(_, other)| *other == field) {
-        values.numbers[index] = number;
+        values.numbers[index] = Some(number);
     }
 }
 
@@ -31,7 +31,7 @@ fn wrong_number(random: &mut Random, field: Field) -> u64 {
     let too_wide = first_too_wide(field);
     let wide = random.pick(&[too_wide, too_wide + 1, u64::MAX]);
     match field.entry {
-        Entry::Number => wide,
+        Entry::Number | Entry::OptionalNumber => wide,
         _ if random.coin() => wide,
         // No field but a plain number holds all nines.
         Entry::OneOf(domain) if domain.contains(&b'9') => too_wide - 2,

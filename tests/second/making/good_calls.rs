@@ -43,7 +43,7 @@ pub fn calls_of(random: &mut Random, file: &MadeFile) -> Vec<WriterCall> {
 /// word on the kind of record count.
 pub fn given_record(random: &mut Random, line: &MadeLine) -> GivenRecord {
     let mut values = Values::of_record(line.kind, &line.bytes[..RECORD_BYTES]);
-    values.numbers.resize(NUMBERS_OF_A_RECORD, 0);
+    values.numbers.resize(NUMBERS_OF_A_RECORD, Some(0));
     fill_unused(random, line.kind, &mut values);
     let is_detail = line.kind.segment().is_some();
     let kind = if is_detail || random.coin() {
@@ -64,10 +64,10 @@ fn fill_unused(random: &mut Random, kind: RecordKind, values: &mut Values) {
     for index in 0..NUMBERS_OF_A_RECORD {
         let field = fields.get(index).copied();
         if !field.is_some_and(|field| takes_number(kind, field)) {
-            values.numbers[index] = match filling {
+            values.numbers[index] = Some(match filling {
                 1 => 0,
                 _ => any_number(random),
-            };
+            });
         }
     }
     for field in fields.into_iter().filter(|field| !takes_text(*field)) {

@@ -22,6 +22,7 @@ const BARCODE_LIKE_J52: &[u8] = b"52";
 const ZEROS_ONCE_IN: usize = 5;
 const NINES_ONCE_IN: usize = 10;
 const BLANKS_ONCE_IN: usize = 4;
+const NOT_GIVEN_ONCE_IN: usize = 2;
 const WORDS: [&str; 8] = [
     "PAGADORA BRASIL LTDA",
     "JOSE DA SILVA",
@@ -60,7 +61,8 @@ fn good_content(random: &mut Random, field: Field, direction: Direction) -> Vec<
     let width = field.width();
     let reserved = direction == Direction::Remittance;
     match field.entry {
-        Entry::Number | Entry::Identifier => digits(random, width),
+        Entry::OptionalNumber if random.below(NOT_GIVEN_ONCE_IN) == 0 => vec![BLANK; width],
+        Entry::Number | Entry::OptionalNumber | Entry::Identifier => digits(random, width),
         Entry::Barcode => barcode(random, width),
         Entry::Text => text(random, width),
         Entry::Date => date(random).into_bytes(),

@@ -2,6 +2,7 @@
 //! fixed seed, and files that a person can read. Every one of them keeps the
 //! rules of the papers.
 
+pub mod absences;
 pub mod cuttings;
 pub mod due_dates;
 pub mod good_barcodes;

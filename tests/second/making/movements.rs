@@ -73,7 +73,7 @@ pub fn all_mixes(payments: usize) -> Vec<Vec<Movement>> {
 /// The movement that the caller of a payment gives.
 pub fn given_movement(call: &WriterCall) -> Movement {
     let first = &call.records[0];
-    let given = movement_index(first.kind).map(|index| first.values.numbers[index]);
+    let given = movement_index(first.kind).and_then(|index| first.values.numbers[index]);
     if given == Some(Movement::Withdrawn.number()) {
         Movement::Withdrawn
     } else {
@@ -84,7 +84,7 @@ pub fn given_movement(call: &WriterCall) -> Movement {
 pub fn give_movement(call: &mut WriterCall, movement: Movement) {
     let first = &mut call.records[0];
     if let Some(index) = movement_index(first.kind) {
-        first.values.numbers[index] = movement.number();
+        first.values.numbers[index] = Some(movement.number());
     }
 }
 

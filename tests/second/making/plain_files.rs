@@ -12,12 +12,12 @@ use crate::paper::calendar::MONTHS;
 use crate::paper::due_factors::LARGEST_FACTOR;
 use crate::paper::file_state::BatchKind;
 use crate::paper::lines::MOST_PAYMENTS;
-use crate::paper::places::INSTRUCTION;
+use crate::paper::places::{INSTRUCTION, NOT_THERE_YET};
 use crate::paper::record_kinds::{Direction, RecordKind};
 use crate::paper::totals::Movement;
 
 /// Names of the files, as they are asked for.
-pub const NAMES: [&str; 8] = [
+pub const NAMES: [&str; 10] = [
     "one-payment",
     "boleto",
     "last-round",
@@ -25,6 +25,8 @@ pub const NAMES: [&str; 8] = [
     "batches",
     "withdrawn",
     "withdrawn-return",
+    "not-paid-yet",
+    "half-blank",
     "bench N",
 ];
 const BENCH: &str = "bench";
@@ -38,6 +40,10 @@ pub const BOLETO_FORM: &[u8] = b"31";
 /// Instruction codes: included but held back, and excluded.
 const HELD: &[u8] = b"09";
 const EXCLUDED: &[u8] = b"99";
+/// When a payment was made, and that it was not: two numbers are left blank then.
+const PAID_ON: &[u8] = b"17112026";
+const NO_DAY: &[u8] = b"        ";
+const NO_CENTS: &[u8] = b"               ";
 /// Due three days before the day these files are made, and later.
 const DUE_PAST: DueDate = *b"13112026";
 const DUE_SOON: DueDate = *b"19112026";
@@ -212,6 +218,10 @@ pub fn write(out: &mut dyn Write, name: &[String]) -> Result<(), String> {
         ["batches"] => write_batches(out),
         ["withdrawn"] => write_withdrawn(out),
         ["withdrawn-return"] => write_withdrawn_return(out),
+        ["not-paid-yet"] => write_unpaid_return(out, |record| put_paid(record, NO_DAY, NO_CENTS)),
+        ["half-blank"] => {
+            write_unpaid_return(out, |record| put_paid(record, PAID_ON, b"          89990"))
+        }
         [BENCH, payments] => write_bench(out, bench_payments(payments)?),
         _ => return Err(format!("no file is named {}", name.join(" "))),
     };
@@ -290,6 +300,28 @@ fn write_withdrawn_return(out: &mut dyn Write) -> io::Result<()> {
     file.changed_boleto(3, bill(21_435, 435, 0, Some(DUE_SOON)), withdraw)?;
     file.close_batch()?;
     file.close()
+}
+
+/// Of three credits one is paid, one is not and one says that nothing is paid;
+/// the A of the second is changed.
+fn write_unpaid_return(out: &mut dyn Write, change: fn(&mut [u8])) -> io::Result<()> {
+    let mut file = PlainFile::begin(out, Direction::Return)?;
+    file.open_batch(BatchKind::Credit)?;
+    file.changed_credit(0, 315_000, |record| {
+        put_paid(record, PAID_ON, b"000000000315000")
+    })?;
+    file.z()?;
+    file.changed_credit(2, 89_990, change)?;
+    file.credit(1, 76_420)?;
+    file.close_batch()?;
+    file.close()
+}
+
+/// The two numbers that a bank leaves blank until the payment is made.
+fn put_paid(record: &mut [u8], day: &[u8], cents: &[u8]) {
+    for (part, content) in NOT_THERE_YET.into_iter().zip([day, cents]) {
+        part.put(record, content);
+    }
 }
 
 fn withdraw(record: &mut [u8]) {

@@ -90,7 +90,9 @@ fn empty(kind: RecordKind) -> Vec<u8> {
     let mut record = vec![b' '; RECORD_BYTES];
     for field in table::fields(kind) {
         let content = match field.entry {
-            Entry::Number | Entry::Identifier => vec![b'0'; field.width()],
+            Entry::Number | Entry::OptionalNumber | Entry::Identifier => {
+                vec![b'0'; field.width()]
+            }
             Entry::Barcode => EMPTY_BARCODE.to_vec(),
             Entry::Date => TODAY.to_vec(),
             Entry::Time => NOW.to_vec(),

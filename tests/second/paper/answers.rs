@@ -30,19 +30,50 @@ impl fmt::Display for Verdict {
     }
 }
 
+/// What is said of a field that was read.
+#[derive(Clone, Copy, PartialEq, Eq)]
+pub enum FieldValue {
+    Number(u64),
+    /// Which is different from zero.
+    NotGiven,
+    /// The field is read as bytes.
+    Bytes,
+}
+
+impl FieldValue {
+    /// Nothing for a number that is not given.
+    pub fn of_number(number: Option<u64>) -> FieldValue {
+        number.map_or(FieldValue::NotGiven, FieldValue::Number)
+    }
+}
+
+impl fmt::Display for FieldValue {
+    fn fmt(&self, out: &mut fmt::Formatter) -> fmt::Result {
+        match self {
+            FieldValue::Number(number) => write!(out, "{number}"),
+            FieldValue::NotGiven => write!(out, "_"),
+            FieldValue::Bytes => write!(out, "-"),
+        }
+    }
+}
+
 /// One line of a reply.
 #[derive(Clone, PartialEq, Eq)]
 pub struct AnswerLine {
     pub verdict: Verdict,
-    /// For each field of a record that was read its number, or nothing where
-    /// the field is read as bytes; for an accepted file its six numbers.
-    pub numbers: Vec<Option<u64>>,
+    /// For an accepted file its six numbers.
+    pub numbers: Vec<u64>,
+    /// For a record that was read each of its fields.
+    pub fields: Vec<FieldValue>,
 }
 
 impl AnswerLine {
     pub fn plain(verdict: Verdict) -> AnswerLine {
-        let numbers = Vec::new();
-        AnswerLine { verdict, numbers }
+        AnswerLine {
+            verdict,
+            numbers: Vec::new(),
+            fields: Vec::new(),
+        }
     }
 }
 
@@ -50,10 +81,10 @@ impl fmt::Display for AnswerLine {
     fn fmt(&self, out: &mut fmt::Formatter) -> fmt::Result {
         write!(out, "{}", self.verdict)?;
         for number in &self.numbers {
-            match number {
-                Some(number) => write!(out, " {number}")?,
-                None => write!(out, " -")?,
-            }
+            write!(out, " {number}")?;
+        }
+        for field in &self.fields {
+            write!(out, " {field}")?;
         }
         Ok(())
     }

@@ -17,6 +17,8 @@ pub const BOLETO_FORMS: [&[u8]; 2] = [b"30", b"31"];
 pub enum Entry {
     /// N.
     Number,
+    /// N too, but blank where it is not given (request 2 of document 02).
+    OptionalNumber,
     /// N too: a CPF or CNPJ number, which is no quantity and is read as bytes.
     Identifier,
     Barcode,
@@ -69,7 +71,10 @@ impl Field {
 
     /// Whether the field is read as a number; the others are read as bytes.
     pub fn is_number(self) -> bool {
-        let quantity = matches!(self.entry, Entry::Number | Entry::Date | Entry::Time);
+        let quantity = matches!(
+            self.entry,
+            Entry::Number | Entry::OptionalNumber | Entry::Date | Entry::Time
+        );
         let code = matches!(self.entry, Entry::OneOf(_) | Entry::Service | Entry::Form);
         quantity || code
     }
@@ -102,6 +107,14 @@ pub fn fields(kind: RecordKind) -> Vec<Field> {
     fields.extend_from_slice(own_fields(kind));
     fields.sort_by_key(|field| field.first);
     fields
+}
+
+/// The numbers of a record that may be not given, with their index among all its
+/// fields.
+pub fn optional_numbers(kind: RecordKind) -> Vec<(usize, Field)> {
+    let fields = fields(kind).into_iter().enumerate();
+    let optional = fields.filter(|(_, field)| field.entry == Entry::OptionalNumber);
+    optional.collect()
 }
 
 /// The other half of the pair that begins with the service.
@@ -190,8 +203,8 @@ const SEGMENT_A: [Field; 20] = [
     field(105, 119, Entry::Number),
     field(120, 134, Entry::Number),
     field(135, 154, Entry::Free),
-    field(155, 162, Entry::Number),
-    field(163, 177, Entry::Number),
+    field(155, 162, Entry::OptionalNumber),
+    field(163, 177, Entry::OptionalNumber),
     field(178, 230, Entry::Free),
     field(231, 240, Entry::BlankInRemittance),
 ];

@@ -58,8 +58,8 @@ impl<Rules: LineRules> LineChecker<Rules> {
 
     fn acceptance(&self) -> AnswerLine {
         AnswerLine {
-            verdict: Verdict::Accepted,
-            numbers: self.state.accepted_numbers().map(Some).to_vec(),
+            numbers: self.state.accepted_numbers().to_vec(),
+            ..AnswerLine::plain(Verdict::Accepted)
         }
     }
 

@@ -1,6 +1,6 @@
-//! The papers read again: document 01, with requests 3 and 13 of document 02 in
-//! it, and request 1, which adds calls of its own. To be laid beside document 01,
-//! section by section:
+//! The papers read again: document 01, with requests 2, 3 and 13 of document 02
+//! in it, and request 1, which adds calls of its own. To be laid beside document
+//! 01, section by section:
 //!
 //! | section of document 01 | here |
 //! |---|---|
@@ -14,6 +14,7 @@
 //! | Guarded places | `guarded_places` |
 //! | Table of proved examples | `examples` |
 //! | (document 02) request 1 | `parts` |
+//! | .. request 2 | `layout_table`, `record_rules`, `records`, `answers` |
 //!
 //! A rule is a method of a trait, and its body is what the paper says. `Paper`
 //! takes every rule as it stands. That a rule can be replaced from outside is

@@ -60,6 +60,8 @@ pub const MOVEMENT: Part = part(15, 15);
 pub const INSTRUCTION: Part = part(16, 17);
 pub const AMOUNT_OF_A: Part = part(120, 134);
 pub const AMOUNT_OF_J: Part = part(153, 167);
+/// The numbers of an A that banks leave blank until the payment is made.
+pub const NOT_THERE_YET: [Part; 2] = [part(155, 162), part(163, 177)];
 
 pub const BARCODE: Part = part(18, 61);
 /// Where a J52 has "52", and a J the first two digits of its barcode.

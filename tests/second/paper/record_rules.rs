@@ -115,6 +115,9 @@ pub trait RecordRules: Calendar {
         if field.entry == Entry::Service {
             return self.pair_refusal(field, subject, draft);
         }
+        if field.entry == Entry::OptionalNumber {
+            return self.optional_number_refusal(field, subject, draft);
+        }
         if draft.too_wide.contains(&field) {
             return Some((self.number_when_too_wide(field)?, field.first));
         }
@@ -136,8 +139,17 @@ pub trait RecordRules: Calendar {
         }
     }
 
-    /// Whether the content is what the table enters for the field. Barcodes
-    /// and pairs have tests of their own.
+    /// All digits are the number, and all blanks say that it is not given, in
+    /// either direction and whatever stands elsewhere. A mix is neither.
+    fn optional_number_refusal(&self, field: Field, _: Subject, draft: &Draft) -> Option<Refusal> {
+        let content = field.of(&draft.bytes);
+        let fits = !draft.too_wide.contains(&field);
+        let right = fits && (all_digits(content) || all_blank(content));
+        (!right).then_some((NON_DIGIT, field.first))
+    }
+
+    /// Whether the content is what the table enters for the field. Barcodes,
+    /// pairs and numbers that may be not given have tests of their own.
     fn is_right(&self, field: Field, subject: Subject, content: &[u8]) -> bool {
         match field.entry {
             Entry::Number | Entry::Identifier => all_digits(content),
@@ -150,7 +162,8 @@ pub trait RecordRules: Calendar {
             }
             Entry::Exact(wanted) => content == wanted,
             Entry::OneOf(domain) => domain.contains(&content[0]),
-            Entry::Free | Entry::Barcode | Entry::Service | Entry::Form => true,
+            Entry::Free | Entry::OptionalNumber => true,
+            Entry::Barcode | Entry::Service | Entry::Form => true,
         }
     }
 
@@ -179,7 +192,8 @@ fn number_of_entry(entry: Entry) -> u32 {
         Entry::Text => BLANK_BEFORE_TEXT,
         Entry::OneOf(_) | Entry::Service | Entry::Form => OUTSIDE_DOMAIN,
         Entry::Date | Entry::Time => NO_DATE_OR_TIME,
-        Entry::Number | Entry::Identifier | Entry::Barcode | Entry::Free => NON_DIGIT,
+        Entry::Number | Entry::OptionalNumber | Entry::Identifier => NON_DIGIT,
+        Entry::Barcode | Entry::Free => NON_DIGIT,
     }
 }
 

@@ -1,17 +1,18 @@
 //! Reading and writing one record alone, as document 01 describes them.
 
-use super::answers::{Answer, AnswerLine, Verdict};
-use super::layout_table::{self as table, Field};
+use super::answers::{Answer, AnswerLine, FieldValue, Verdict};
+use super::layout_table::{self as table, Entry, Field};
 use super::lines::RECORD_BYTES;
 use super::record_kinds::{RecordKind, Subject};
-use super::record_rules::{Draft, RecordRules};
+use super::record_rules::{all_blank, Draft, RecordRules};
 use super::Paper;
 
 /// What the caller of a write gives: a number for each field, which counts
 /// where the field is a number, and text, which counts at the other places.
 #[derive(Clone)]
 pub struct Values {
-    pub numbers: Vec<u64>,
+    /// Nothing for a number that is not given; no number stands for that.
+    pub numbers: Vec<Option<u64>>,
     pub text: Vec<u8>,
 }
 
@@ -21,9 +22,9 @@ impl Values {
         let fields = table::fields(kind).into_iter();
         let numbers = fields.map(|field| {
             if field.is_number() {
-                number_of(field.of(record))
+                number_at(field, record)
             } else {
-                0
+                Some(0)
             }
         });
         Values {
@@ -41,6 +42,13 @@ pub fn number_of(digits: &[u8]) -> u64 {
     })
 }
 
+/// The number of a field of a good record; nothing where it is not given.
+pub fn number_at(field: Field, record: &[u8]) -> Option<u64> {
+    let content = field.of(record);
+    let not_given = field.entry == Entry::OptionalNumber && all_blank(content);
+    (!not_given).then(|| number_of(content))
+}
+
 /// The smallest number with more digits than the field.
 pub fn first_too_wide(field: Field) -> u64 {
     (0..field.width()).fold(1, |power, _| power * 10)
@@ -56,8 +64,8 @@ pub trait Records: RecordRules {
         let fields = table::fields(subject.kind);
         let numbers = fields.iter().filter(|field| field.is_number());
         let line = AnswerLine {
-            verdict,
-            numbers: fields.iter().map(|f| self.number_in(*f, bytes)).collect(),
+            fields: fields.iter().map(|f| self.value_in(*f, bytes)).collect(),
+            ..AnswerLine::plain(verdict)
         };
         Answer {
             unbound: numbers.map(|field| field.range()).collect(),
@@ -66,9 +74,12 @@ pub trait Records: RecordRules {
         }
     }
 
-    /// Nothing for a field that is read as bytes.
-    fn number_in(&self, field: Field, record: &[u8]) -> Option<u64> {
-        field.is_number().then(|| number_of(field.of(record)))
+    fn value_in(&self, field: Field, record: &[u8]) -> FieldValue {
+        if field.is_number() {
+            FieldValue::of_number(number_at(field, record))
+        } else {
+            FieldValue::Bytes
+        }
     }
 
     /// What writing a record into lent memory gives.
@@ -81,7 +92,8 @@ pub trait Records: RecordRules {
         Answer::with_memory(verdict, memory)
     }
 
-    /// The record as it would be written.
+    /// The record as it would be written. A number that is not given leaves its
+    /// field blank, which is for the test of the field to judge.
     fn draft(&self, kind: RecordKind, values: &Values) -> Draft {
         let mut bytes = values.text.clone();
         let mut too_wide = Vec::new();
@@ -89,12 +101,12 @@ pub trait Records: RecordRules {
             if let Some(content) = field.fixed_content() {
                 field.put(&mut bytes, &content);
             } else if field.is_number() {
-                let digits = format!("{number:0width$}", width = field.width());
-                let surplus = digits.len() - field.width();
+                let content = number.map_or_else(|| blanks(field), |number| digits(field, number));
+                let surplus = content.len() - field.width();
                 if surplus > 0 {
                     too_wide.push(field);
                 }
-                field.put(&mut bytes, &digits.as_bytes()[surplus..]);
+                field.put(&mut bytes, &content[surplus..]);
             }
         }
         Draft { bytes, too_wide }
@@ -102,3 +114,12 @@ pub trait Records: RecordRules {
 }
 
 impl Records for Paper {}
+
+fn blanks(field: Field) -> Vec<u8> {
+    vec![b' '; field.width()]
+}
+
+/// As many as the field has places, or more.
+fn digits(field: Field, number: u64) -> Vec<u8> {
+    format!("{number:0width$}", width = field.width()).into_bytes()
+}

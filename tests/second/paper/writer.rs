@@ -66,7 +66,7 @@ impl<Rules: WriterRules> Writer<Rules> {
         self.advance(&kinds, &drafts);
         let mut line = AnswerLine::plain(Verdict::Accepted);
         if call.kind == CallKind::CloseFile {
-            line.numbers = self.state.accepted_numbers().map(Some).to_vec();
+            line.numbers = self.state.accepted_numbers().to_vec();
         }
         line
     }

@@ -68,9 +68,9 @@ pub trait Filling: Records {
     }
 
     /// The writer's own number, or the caller's where the writer has none.
-    fn filled_number(&self, unfilled: Unfilled, field: Field, given: u64) -> u64 {
+    fn filled_number(&self, unfilled: Unfilled, field: Field, given: Option<u64>) -> Option<u64> {
         match filled_part(unfilled.kind, field) {
-            Some(part) => own_number(unfilled, part),
+            Some(part) => Some(own_number(unfilled, part)),
             None => given,
         }
     }

@@ -2,11 +2,13 @@
 //! notice one of them would not notice the same mistake in the payment desk
 //! either.
 
+use super::absence_faults::{AbsenceFault, ABSENCE_FAULTS};
 use super::limits::{LimitFault, LIMIT_FAULTS};
 use super::names::hyphenated;
 use super::part_faults::{PartFault, PART_FAULTS};
 use super::totals::{TotalsFault, TOTALS_FAULTS};
 use super::writer_faults::{of_the_writer, WriterFault, WRITER_FAULTS};
+use crate::asking::probe::{Op, Request};
 
 #[derive(Clone, Copy, PartialEq, Eq)]
 pub enum Fault {
@@ -105,6 +107,18 @@ pub enum Fault {
     Writer(WriterFault),
     WriterTotals(TotalsFault),
     WriterLimit(LimitFault),
+    /// In this op alone.
+    Absence(AbsenceFault, Op),
+}
+
+impl Fault {
+    /// Whether a request can show the fault.
+    pub fn is_about(self, request: &Request) -> bool {
+        match self {
+            Fault::Absence(_, op) => op.code() == request.op_code(),
+            _ => true,
+        }
+    }
 }
 
 /// Mistakes about digit strings and records alone.
@@ -314,6 +328,23 @@ pub fn faults_about(topic: Topic) -> Vec<(String, Fault)> {
         Topic::Writer => {
             faults.extend(totals.map(|f| (of_the_writer(hyphenated(f)), Fault::WriterTotals(*f))));
         }
+    }
+    faults.extend(absence_faults_about(topic));
+    faults
+}
+
+/// Each fault in each op of the topic that can show it.
+fn absence_faults_about(topic: Topic) -> Vec<(String, Fault)> {
+    let ops: &[Op] = match topic {
+        Topic::StringsAndRecords => &[Op::ReadRecord, Op::WriteRecord],
+        Topic::Files => &[Op::CheckFile, Op::CheckLines],
+        Topic::Parts => &[Op::CheckParts],
+        Topic::Writer => &[Op::WriteFile],
+    };
+    let mut faults = Vec::new();
+    for fault in ABSENCE_FAULTS {
+        let shown_in = ops.iter().filter(|op| fault.ops().contains(op));
+        faults.extend(shown_in.map(|op| (fault.name(*op), Fault::Absence(*fault, *op))));
     }
     faults
 }

@@ -63,7 +63,7 @@ impl Sown {
             (self.has(fault), line.numbers.as_slice())
         {
             let both = live.iter().zip([payments, cents]);
-            let both = both.map(|(live, withdrawn)| Some((*live)? + (*withdrawn)?));
+            let both = both.map(|(live, withdrawn)| live + withdrawn);
             line.numbers = [*batches, *records].into_iter().chain(both).collect();
         }
         line

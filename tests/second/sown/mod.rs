@@ -4,6 +4,8 @@
 //! calls, or to the memory behind one, is done around the paper's own checkers
 //! and writer. No model knows of its faults.
 
+mod absence_faults;
+mod absences;
 pub mod answers;
 mod boletos;
 mod calendar;
@@ -29,6 +31,7 @@ mod writer_slips;
 
 pub use due_factors::mistaken_factors;
 
+use absence_faults::AbsenceFault;
 use faults::Fault;
 use limits::LimitFault;
 use part_faults::PartFault;
@@ -48,6 +51,14 @@ impl Sown {
 
     fn has(self, fault: Fault) -> bool {
         self.fault == fault
+    }
+
+    /// The fault, if it is one about numbers that are not given.
+    fn absence_fault(self) -> Option<AbsenceFault> {
+        match self.fault {
+            Fault::Absence(fault, _) => Some(fault),
+            _ => None,
+        }
     }
 
     /// The fault, if it is one of the checker in parts.

@@ -1,9 +1,10 @@
 //! Mistakes about one record alone.
 
+use super::absences;
 use super::faults::Fault;
 use super::order::move_before;
 use super::Sown;
-use crate::paper::answers::{Answer, Verdict};
+use crate::paper::answers::{Answer, FieldValue, Verdict};
 use crate::paper::calendar::Calendar;
 use crate::paper::layout_table::{self as table, Entry, Field, BOLETO_FORMS, CREDIT_SERVICE};
 use crate::paper::lines::RECORD_BYTES;
@@ -57,6 +58,12 @@ impl RecordRules for Sown {
     /// the fault.
     fn is_right(&self, field: Field, subject: Subject, content: &[u8]) -> bool {
         let returned = subject.direction == Direction::Return;
+        let absence = self.absence_fault();
+        if absence.is_some_and(|fault| absences::may_be_blank(fault, field, subject.kind))
+            && all_blank(content)
+        {
+            return true;
+        }
         match (self.fault, field.entry) {
             (_, Entry::Date) => self.has_date(content),
             (_, Entry::Time) => self.has_time(content),
@@ -76,6 +83,26 @@ impl RecordRules for Sown {
                 content == [subject.direction.code()]
             }
             _ => Paper.is_right(field, subject, content),
+        }
+    }
+
+    fn optional_number_refusal(
+        &self,
+        field: Field,
+        subject: Subject,
+        draft: &Draft,
+    ) -> Option<Refusal> {
+        match self.absence_fault() {
+            Some(fault) => {
+                let test = absences::Test {
+                    fault,
+                    field,
+                    subject,
+                    draft,
+                };
+                test.refusal()
+            }
+            None => Paper.optional_number_refusal(field, subject, draft),
         }
     }
 
@@ -114,24 +141,34 @@ fn is_service(content: &[u8], direction: Direction) -> bool {
 }
 
 impl Records for Sown {
-    fn number_in(&self, field: Field, record: &[u8]) -> Option<u64> {
-        let right = Paper.number_in(field, record);
-        match self.fault {
-            Fault::IdentifiersReadAsNumbers if field.entry == Entry::Identifier => {
-                Some(number_of(field.of(record)))
+    fn value_in(&self, field: Field, record: &[u8]) -> FieldValue {
+        let right = Paper.value_in(field, record);
+        match (self.fault, right) {
+            (Fault::IdentifiersReadAsNumbers, _) if field.entry == Entry::Identifier => {
+                FieldValue::Number(number_of(field.of(record)))
             }
-            Fault::NumbersReadIn32Bits => right.map(|number| u64::from(number as u32)),
+            (Fault::NumbersReadIn32Bits, FieldValue::Number(number)) => {
+                FieldValue::Number(u64::from(number as u32))
+            }
+            (Fault::Absence(fault, _), _) if field.entry == Entry::OptionalNumber => {
+                absences::mistaken_value(fault, record, right)
+            }
             _ => right,
         }
     }
 
     fn draft(&self, kind: RecordKind, values: &Values) -> Draft {
-        let mut draft = Paper.draft(kind, values);
+        let mut draft = match self.absence_fault() {
+            Some(fault) => Paper.draft(kind, &absences::mistaken_values(fault, kind, values)),
+            None => Paper.draft(kind, values),
+        };
         if self.has(Fault::WideNumberCut) {
             draft.too_wide.clear();
         }
         for field in table::fields(kind) {
-            if self.keeps_text_at(field, &values.text) {
+            let absence = self.absence_fault();
+            let kept = absence.is_some_and(|fault| absences::keeps_text(fault, field, &draft));
+            if kept || self.keeps_text_at(field, &values.text) {
                 field.put(&mut draft.bytes, field.of(&values.text));
                 draft.too_wide.retain(|wide| *wide != field);
             }

@@ -92,7 +92,7 @@ impl Miscount<'_> {
     }
 
     /// What is said instead of the six numbers that are right.
-    pub fn numbers(&self, right: &[Option<u64>]) -> Vec<Option<u64>> {
+    pub fn numbers(&self, right: &[u64]) -> Vec<u64> {
         let told = self.payments.iter().zip(self.withdrawn_ones());
         let (withdrawn, live): (Vec<_>, Vec<_>) = told.partition(|(_, told)| *told);
         let [live, withdrawn] = [live, withdrawn].map(|side| {
@@ -103,10 +103,10 @@ impl Miscount<'_> {
             TotalsFault::WithdrawnRecordsLeftOut => records_of(&withdrawn),
             _ => 0,
         };
-        let batches_and_records = right.iter().flatten().zip([0, left_out]);
+        let batches_and_records = right.iter().zip([0, left_out]);
         let batches_and_records = batches_and_records.map(|(right, left_out)| right - left_out);
         let shares = self.said(self.live(&live, &withdrawn), self.withdrawn(&withdrawn));
-        batches_and_records.chain(shares).map(Some).collect()
+        batches_and_records.chain(shares).collect()
     }
 
     fn whole(&self) -> Share {

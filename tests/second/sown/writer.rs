@@ -69,7 +69,7 @@ impl SownWriter {
         self.accepted_calls += 1;
         if self.has(WriterFault::TotalsWithoutTheTrailer) {
             let records = answer.numbers.iter_mut().skip(1).take(1);
-            records.flatten().for_each(|records| *records -= 1);
+            records.for_each(|records| *records -= 1);
         }
         if let (Some(fault), CallKind::CloseFile) = (self.totals_fault, call.kind) {
             let miscount = Miscount::of(fault, &self.inner.file, self.refused_withdrawn);

@@ -27,7 +27,7 @@ impl Filling for Sown {
         draft
     }
 
-    fn filled_number(&self, unfilled: Unfilled, field: Field, given: u64) -> u64 {
+    fn filled_number(&self, unfilled: Unfilled, field: Field, given: Option<u64>) -> Option<u64> {
         let fault = match self.writer_fault() {
             Some(fault) => fault,
             None => return Paper.filled_number(unfilled, field, given),
@@ -36,7 +36,7 @@ impl Filling for Sown {
             Some(part) if keeps_number(fault, unfilled.kind, part, given) => given,
             Some(part) => {
                 let right = own_number(unfilled, part);
-                mistaken_number(fault, unfilled, part).unwrap_or(right)
+                Some(mistaken_number(fault, unfilled, part).unwrap_or(right))
             }
             None => taken_number(fault, unfilled.kind, field, given),
         }
@@ -133,7 +133,7 @@ fn sum(fault: WriterFault, state: &State) -> Option<u64> {
 }
 
 /// The caller's number does not count where the writer has its own.
-fn keeps_number(fault: WriterFault, kind: RecordKind, part: Part, given: u64) -> bool {
+fn keeps_number(fault: WriterFault, kind: RecordKind, part: Part, given: Option<u64>) -> bool {
     let is_trailer = kind == RecordKind::BatchTrailer || kind == RecordKind::FileTrailer;
     let too_wide = (0..part.width()).fold(1, |power, _| power * 10);
     match (fault, part) {
@@ -142,22 +142,27 @@ fn keeps_number(fault: WriterFault, kind: RecordKind, part: Part, given: u64) ->
         | (WriterFault::DetailNumberOfTheCaller, DETAIL_NUMBER)
         | (WriterFault::CountsOfTheCaller, BATCH_RECORDS) => true,
         (WriterFault::BankOfTheCallerInTrailers, BANK) => is_trailer,
-        (WriterFault::FilledNumbersTested, _) => given >= too_wide,
+        (WriterFault::FilledNumbersTested, _) => given >= Some(too_wide),
         _ => false,
     }
 }
 
 /// The caller's number where it counts.
-fn taken_number(fault: WriterFault, kind: RecordKind, field: Field, given: u64) -> u64 {
+fn taken_number(
+    fault: WriterFault,
+    kind: RecordKind,
+    field: Field,
+    given: Option<u64>,
+) -> Option<u64> {
     let narrow = field.width() < FIRST_WIDTH_OVER_32_BITS;
-    match (fault, kind) {
+    given.map(|number| match (fault, kind) {
         (WriterFault::BatchTrailerFieldsZero, RecordKind::BatchTrailer)
         | (WriterFault::FileTrailerFieldZero, RecordKind::FileTrailer) => 0,
-        (WriterFault::LargestNumberWraps, _) if given == u64::MAX => 0,
-        (WriterFault::NarrowNumbersIn32Bits, _) if narrow => u64::from(given as u32),
-        (WriterFault::WideNumberCut, _) if field.is_number() => given % first_too_wide(field),
-        _ => given,
-    }
+        (WriterFault::LargestNumberWraps, _) if number == u64::MAX => 0,
+        (WriterFault::NarrowNumbersIn32Bits, _) if narrow => u64::from(number as u32),
+        (WriterFault::WideNumberCut, _) if field.is_number() => number % first_too_wide(field),
+        _ => number,
+    })
 }
 
 /// What stands in a field of the draft beside what the writer puts there.

@@ -9,7 +9,7 @@ use lib.Dec.{T, leb, leb→le}
 use Rattle.answer.specs.Rules.{Rule, rule, noLine, Broken}
 use Rattle.answer.specs.declared.Refusal.{Refusal}
 use Rattle.digits.specs.laws.Tests.{both}
-use Rattle.layout.specs.Field.{Kind, N, Id, T as Text, F, D, Time, K, O, Zeros, Exact, OneOf, Service, Form, Barcode, RecordType, Segment, Field}
+use Rattle.layout.specs.Field.{Kind, N, NOrBlank, Id, T as Text, F, D, Time, K, O, Zeros, Exact, OneOf, Service, Form, Barcode, RecordType, Segment, Field}
 use Rattle.layout.specs.Records.{shapeOf}
 use Rattle.layout.specs.Table.{segmentFields, segmentPlace, typePlace, batchRecords, fileBatches, fileRecords}
 use Rattle.layout.specs.Kinds.{Part, means, blankIn}
@@ -67,6 +67,7 @@ blanks Return p = none
 
 kind : (k : Kind) (p : Part) → Listed byteNumber (means k .rules p)
 kind N p = one tt
+kind NOrBlank p = one tt
 kind Id p = one tt
 kind Text p = one tt
 kind F p = none

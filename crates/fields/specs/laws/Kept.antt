@@ -1,5 +1,5 @@
 -- What a field's bytes are where its rules are kept, and what is refused where they are no number. Assumes nothing.
-use mathlib.Core.Path.{_≡_, refl, sym, subst, _∙_}
+use mathlib.Core.Path.{_≡_, refl, sym, ap, subst, _∙_}
 use mathlib.Core.Bool.{Bool, true, false, cond, not, _||_}
 use mathlib.Core.List.{List, [], _∷_, _++_, append-assoc}
 use Prim.Native.Nat.{ℕ, zero, suc, _≤_, _<_}
@@ -20,9 +20,9 @@ use Rattle.digits.specs.declared.spelling.Number.{Number}
 use Rattle.digits.specs.declared.spelling.Number.the-variants.{Is, Not}
 use Rattle.calendar.specs.Calendar.{numberFits, dateFits, timeFits}
 use Rattle.layout.specs.Pairs.{Pairs, pairs, among, batchAmong, batchOf, known}
-use Rattle.layout.specs.Field.{Kind, N, Id, T as Text, F, D, Time, K, O, Zeros, Exact, OneOf, Service, Form, Barcode, RecordType, Segment, Field, field, part, none}
+use Rattle.layout.specs.Field.{Kind, N, NOrBlank, Id, T as Text, F, D, Time, K, O, Zeros, Exact, OneOf, Service, Form, Barcode, RecordType, Segment, Field, field, part, none}
 use Rattle.layout.specs.Table.{fieldsOf, recordBytes, serviceField, formField}
-use Rattle.layout.specs.Kinds.{Held, asNumber, asBytes, asFixed, means, isFixed, oneOf}
+use Rattle.layout.specs.Kinds.{Presence, perhaps, Held, aNumber, asNumberIfGiven, asBytes, asFixed, means, blank, run, isFixed, numberOrBlank, oneOf}
 use Rattle.layout.specs.Record.{fieldRules, rulesOf, firstRules, recordRules}
 use Rattle.layout.specs.laws.Bytes.{and-left, and-right, same-true, no-service, no-form}
 use Rattle.layout.specs.laws.Tiling.{All, at}
@@ -32,7 +32,7 @@ use Rattle.layout.specs.declared.Record.{Record}
 use Rattle.layout.specs.declared.Record.the-variants.{BatchHeader}
 use Rattle.layout.specs.Records.{code}
 use Rattle.layout.specs.laws.Records.{each, same-code}
-use Rattle.fields.specs.Values.{heldAs}
+use Rattle.fields.specs.Values.{heldAs, isGiven}
 use Rattle.fields.specs.laws.Wide.{wide, carrier, wideNumber, widePlace}
 
 -- ---- bytes that give a number
@@ -79,30 +79,58 @@ same-places g f bs t =
     let a = both (eqb (f .from) (g .from)) (eqb (f .to) (g .to)) t in
     rw (eqb→eq (f .from) (g .from) (a .0), eqb→eq (f .to) (g .to) (a .1))
 
+-- ---- bytes of a number that may be not given
+
+data Spelled (bs : List ℕ) : Presence → Type 0 where
+  some : {p : Presence} → Some (numberOf bs) → Spelled bs p
+  blanks : numberOf bs ≡ Not → run blank (length bs) ≡ bs → Spelled bs perhaps
+
+no-digits-none : (bs : List ℕ) → allDigits bs ≡ false → numberOf bs ≡ Not
+unfolding numberOf
+no-digits-none bs e = rw e
+
+number-or-blank-spelled : (bs : List ℕ) → length bs ≤ mostDigits → numberOrBlank bs ≡ true → Spelled bs perhaps
+number-or-blank-spelled bs h e = go (allDigits bs) refl e
+  where
+    go : (t : Bool) → allDigits bs ≡ t → t || isFixed (run blank) bs ≡ true → Spelled bs perhaps
+    go true q e = some (all-some bs h q)
+    go false q e = blanks (no-digits-none bs q) (same-true _ _ e)
+
+-- neither a number nor, where it may be not given, blanks
+pub record NoNumber (p : Presence) (bs : List ℕ) : Type 0 where
+  pub none : numberOf bs ≡ Not
+  pub solid : p ≡ perhaps → run blank (length bs) ≡ bs → ⊥
+
+not-spelled : {p : Presence} {bs : List ℕ} → NoNumber p bs → Spelled bs p → ⊥
+not-spelled x (some s) = absurd (let z : _≡_ {A = ℕ} 0 1 = ap (λ (m : Number). cond (isGiven m) 1 0) (sym (x .none) ∙ s .is) in omega arith)
+not-spelled x (blanks n e) = x .solid refl e
+
 -- ---- a kind's rules, by how it is held
 
--- a number has one rule, refused as `number` at `place`, which only bytes that give a number keep; bytes have any; fixed content is compared
+-- a number has one rule, refused as `number` at `place`, which only bytes that give a number keep, or blanks where it may be not given; bytes have
+-- any; fixed content is compared
 data Ruled (bs : List ℕ) (number place : ℕ) : Held → List Rule → Type 0 where
-  a-number : {t : Bool} → (t ≡ true → Some (numberOf bs)) → Ruled bs number place asNumber (rule number place t ∷ [])
+  a-number : {p : Presence} {t : Bool} → (t ≡ true → Spelled bs p) → Ruled bs number place (aNumber p) (rule number place t ∷ [])
   any-bytes : {rules : List Rule} → Ruled bs number place asBytes rules
   content-only : {content : ℕ → List ℕ} {n p : ℕ} → Ruled bs number place (asFixed content) (rule n p (isFixed content bs) ∷ [])
 
 ruled : (k : Kind) (f : Field) (d : Direction) (rec : List ℕ) → length (part f rec) ≤ width f → T (fills (means k .held) (width f)) → T (proper k f)
     → let g = field (f .from) (f .to) k in Ruled (part f rec) (wideNumber k) (widePlace g) (means k .held) (fieldRules (carrier g) d rec)
 unfolding dateFits timeFits batchOf
-ruled N f d rec l s o = a-number (all-some (part f rec) (omega (arith, leb→le (width f) mostDigits s)))
+ruled N f d rec l s o = a-number (λ e. some (all-some (part f rec) (omega (arith, leb→le (width f) mostDigits s)) e))
+ruled NOrBlank f d rec l s o = a-number (number-or-blank-spelled (part f rec) (omega (arith, leb→le (width f) mostDigits s)))
 ruled Id f d rec l s o = any-bytes
 ruled Text f d rec l s o = any-bytes
 ruled F f d rec l s o = any-bytes
-ruled D f d rec l s o = a-number (λ e. fits-some _ _ (and-right (eqb (length (part f rec)) 8) _ e))
-ruled Time f d rec l s o = a-number (λ e. fits-some _ _ (and-right (eqb (length (part f rec)) 6) _ e))
+ruled D f d rec l s o = a-number (λ e. some (fits-some _ _ (and-right (eqb (length (part f rec)) 8) _ e)))
+ruled Time f d rec l s o = a-number (λ e. some (fits-some _ _ (and-right (eqb (length (part f rec)) 6) _ e)))
 ruled K f d rec l s o = content-only
 ruled O f d rec l s o = any-bytes
 ruled Zeros f d rec l s o = content-only
 ruled (Exact bs) f d rec l s o = content-only
-ruled (OneOf domain) f d rec l s o = a-number (one-some domain (part f rec) o)
-ruled Service f d rec l s o = a-number (λ e. rw (same-places serviceField f rec o) (service-some (pairs d) _ (numberOf (part formField rec)) e))
-ruled Form f d rec l s o = a-number (λ e. rw (same-places formField f rec o) (form-some (pairs d) (numberOf (part serviceField rec)) _ e))
+ruled (OneOf domain) f d rec l s o = a-number (λ e. some (one-some domain (part f rec) o e))
+ruled Service f d rec l s o = a-number (λ e. some (rw (same-places serviceField f rec o) (service-some (pairs d) _ (numberOf (part formField rec)) e)))
+ruled Form f d rec l s o = a-number (λ e. some (rw (same-places formField f rec o) (form-some (pairs d) (numberOf (part serviceField rec)) _ e)))
 ruled Barcode f d rec l s o = any-bytes
 ruled (RecordType b) f d rec l s o = content-only
 ruled (Segment b) f d rec l s o = content-only
@@ -115,32 +143,40 @@ module _ (f : Field) (d : Direction) (rec : List ℕ) (s : Sound f) where
 
 -- what is known of a field's bytes that keep its rules, by how the field is held
 pub data Kept (bs : List ℕ) : Held → Type 0 where
-  is-number : {n : ℕ} → numberOf bs ≡ Is n → Kept bs asNumber
+  is-number : {p : Presence} {n : ℕ} → numberOf bs ≡ Is n → Kept bs (aNumber p)
+  is-blank : numberOf bs ≡ Not → run blank (length bs) ≡ bs → Kept bs asNumberIfGiven
   is-bytes : Kept bs asBytes
   is-fixed : {content : ℕ → List ℕ} → content (length bs) ≡ bs → Kept bs (asFixed content)
+
+spells : {bs : List ℕ} {p : Presence} → Spelled bs p → Kept bs (aNumber p)
+spells (some s) = is-number (s .is)
+spells (blanks n e) = is-blank n e
 
 module _ {bs : List ℕ} {number place : ℕ} where
   keeps : {h : Held} {rules : List Rule} → Ruled bs number place h rules → firstBroken rules ≡ Accepted → Kept bs h
   unfolding AllKept
-  keeps (a-number k) e = is-number (k (accepted-kept _ e .0) .is)
+  keeps (a-number k) e = spells (k (accepted-kept _ e .0))
   keeps any-bytes e = is-bytes
   keeps content-only e = is-fixed (same-true _ _ (accepted-kept _ e .0))
 
-  breaks : {h : Held} {rules : List Rule} → Ruled bs number place h rules → h ≡ asNumber → numberOf bs ≡ Not → firstBroken rules ≡ refusedAs number place
-  breaks (a-number {t} k) e q = go t k
+  breaks : {p : Presence} {h : Held} {rules : List Rule} → Ruled bs number place h rules → h ≡ aNumber p → (Spelled bs p → ⊥)
+      → firstBroken rules ≡ refusedAs number place
+  breaks {p} (a-number {p = q} {t} k) e none = let same : q ≡ p = cc in go t (λ t. subst (Spelled bs) same (k t))
     where
-      go : (t : Bool) → (t ≡ true → Some (numberOf bs)) → firstBroken (rule number place t ∷ []) ≡ refusedAs number place
-      go true k = let s = k refl in cc
+      go : (t : Bool) → (t ≡ true → Spelled bs p) → firstBroken (rule number place t ∷ []) ≡ refusedAs number place
+      go true k = absurd (none (k refl))
       go false k = sym (here number place false [] refl)
-  breaks any-bytes e q = cc
-  breaks content-only e q = cc
+  breaks any-bytes e none = cc
+  breaks content-only e none = cc
 
 module _ (f : Field) (d : Direction) (rec : List ℕ) (s : Sound f) where
   pub kept : firstBroken (fieldRules (carrier f) d rec) ≡ Accepted → Kept (part f rec) (heldAs f)
   kept = keeps (rules-of f d rec s)
 
-  pub no-number : heldAs f ≡ asNumber → numberOf (part f rec) ≡ Not → firstBroken (fieldRules (carrier f) d rec) ≡ refusedAs (wideNumber (f .kind)) (widePlace f)
-  no-number = breaks (rules-of f d rec s)
+  -- no number stands there, and no blanks where it may be not given
+  pub no-number : {p : Presence} → heldAs f ≡ aNumber p → NoNumber p (part f rec)
+      → firstBroken (fieldRules (carrier f) d rec) ≡ refusedAs (wideNumber (f .kind)) (widePlace f)
+  no-number h none = breaks (rules-of f d rec s) h (not-spelled none)
 
 -- ---- one field's rules among all
 

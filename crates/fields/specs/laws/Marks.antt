@@ -19,7 +19,7 @@ use Rattle.layout.specs.declared.Direction.{Direction}
 use Rattle.layout.specs.declared.Record.{Record}
 use Rattle.layout.specs.Records.{shapeOf, isDetail, typeOf, letterOf}
 use Rattle.layout.specs.laws.Columns.{five}
-use Rattle.fields.specs.Values.{heldAs, rendered, recordOf}
+use Rattle.fields.specs.Values.{heldAs, nth, rendered, recordOf}
 use Rattle.fields.specs.laws.Parts.{record-length, holds}
 use Rattle.fields.specs.declared.Fields.{Fields}
 
@@ -27,7 +27,7 @@ module _ (r : Record) (v : Fields) (full : length (v .text) ≡ recordBytes) whe
   -- a field of one fixed byte holds it
   mark : (j b : ℕ) (f : Field) → j < length (fieldsOf r) → getD (fieldsOf r) j none ≡ f → heldAs f ≡ asFixed (text (b ∷ [])) → same (b ∷ []) (part f (recordOf r v)) ≡ true
   mark j b f h e q =
-      let is : part f (recordOf r v) ≡ b ∷ [] = (rw e at (holds r v full j h)) ∙ ap (λ (x : Held). rendered x (getD (v .numbers) j 0) (part f (v .text))) q in
+      let is : part f (recordOf r v) ≡ b ∷ [] = (rw e at (holds r v full j h)) ∙ ap (λ (x : Held). rendered x (nth j v) (part f (v .text))) q in
       rw is (same-self (b ∷ []))
 
 -- the type stands third among a record's fields, and a detail's segment fifth

@@ -6,7 +6,6 @@ use lib.ListN.{length}
 use Rattle.layout.specs.Records.{code}
 use Rattle.layout.specs.Table.{fieldsOf}
 use Rattle.layout.specs.declared.Record.{Record}
-use Rattle.digits.specs.declared.spelling.Number.the-variants.{Is}
 use Rattle.fields.specs.Values.{takenAs, nth, setNth, numberAt, withNumber}
 use Rattle.fields.specs.declared.Fields.{Fields}
 
@@ -16,7 +15,7 @@ module _ (r : Record) (v : Fields) (e : v .which ≡ r) where
   by-name j n = rw (e, eq-eqb (code r) (code r) refl)
 
   -- and read there
-  pub at-name : (j : ℕ) → j < length (fieldsOf r) → numberAt (record { 0 = r; 1 = j }) v ≡ Is (nth j v)
+  pub at-name : (j : ℕ) → j < length (fieldsOf r) → numberAt (record { 0 = r; 1 = j }) v ≡ nth j v
   at-name j h = rw (e, eq-eqb (code r) (code r) refl, lt-ltb _ _ h)
 
   -- where the record's are asked, they are taken as they are

@@ -1,6 +1,5 @@
 -- Where no record is made yet, what stands there is what is made of a Z of which nothing is given. Assumes nothing.
 use mathlib.Core.Path.{_≡_, refl}
-use lib.ListN.{length}
 use Rattle.answer.specs.Rules.{firstBroken}
 use Rattle.digits.specs.Numbers.{numeral, lastDigits}
 use Rattle.layout.specs.Table.{fieldsOf}

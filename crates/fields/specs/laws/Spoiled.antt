@@ -16,7 +16,8 @@ use Rattle.answer.specs.declared.Answer.the-variants.{Accepted}
 use Rattle.digits.specs.laws.Strings.{part-getD}
 use Rattle.layout.specs.Field.{Field, part, none}
 use Rattle.layout.specs.Table.{fieldsOf, recordBytes}
-use Rattle.layout.specs.Kinds.{Held, asNumber, asBytes, asFixed}
+use Rattle.layout.specs.Kinds.{Held, aNumber, asNumber, asBytes, asFixed}
+use Rattle.digits.specs.declared.spelling.Number.the-variants.{Is}
 use Rattle.layout.specs.Record.{printable, allPrintable, firstRules, rulesOf, recordRules, fieldRules}
 use Rattle.layout.specs.laws.Bytes.{and-left, and-right, printable-turn}
 use Rattle.layout.specs.laws.Sound.{width}
@@ -39,7 +40,7 @@ ruinedAt = 6
 
 pub record Ruined (v : Fields) : Type 0 where
   pub text : v .text ≡ replicate recordBytes 0
-  pub number : nth ruinedAt v ≡ largest
+  pub number : nth ruinedAt v ≡ Is largest
 
 -- spoiled fields are so
 pub spoiled-ruined : (r : Record) → Ruined (spoiled r)
@@ -80,22 +81,22 @@ module _ (r : Record) (d : Direction) (v : Fields) (text : v .text ≡ replicate
       never (rw zero-there at (printable-at rec e (f .from - 1) inside))
 
   -- a field that is held as a number, and has its own rule
-  no-number : {A : Type 0} → let f = getD (fieldsOf r) j none in carrier f ≡ f → heldAs f ≡ asNumber → 10 ^ width (getD (fieldsOf r) j none) ≤ nth j v
-      → firstBroken (rulesOf (fieldsOf r) d (recordOf r v)) ≡ Accepted → A
-  no-number own a l e =
+  no-number : {A : Type 0} {n : ℕ} → let f = getD (fieldsOf r) j none in carrier f ≡ f → heldAs f ≡ asNumber → nth j v ≡ Is n
+      → 10 ^ width (getD (fieldsOf r) j none) ≤ n → firstBroken (rulesOf (fieldsOf r) d (recordOf r v)) ≡ Accepted → A
+  no-number own a q l e =
       let rec = recordOf r v in
       let kept = front-accepted _ _ (back-accepted (rulesOf _ d rec) _ (rw (rules-at (fieldsOf r) d rec j h) at e)) in
-      never-refused (sym kept ∙ ap (λ (f : Field). firstBroken (fieldRules f d rec)) (sym own) ∙ too-wide r d v full j h a l)
+      never-refused (sym kept ∙ ap (λ (f : Field). firstBroken (fieldRules f d rec)) (sym own) ∙ too-wide r d v full j h a q l)
 
 -- ---- a field of bytes: every record has one but the file trailer, which has a number there
 
 abbrev isBytes : Held → Bool
-isBytes asNumber = false
+isBytes (aNumber p) = false
 isBytes asBytes = true
 isBytes (asFixed content) = false
 
 is-bytes : (h : Held) → isBytes h ≡ true → h ≡ asBytes
-is-bytes asNumber e = never e
+is-bytes (aNumber p) e = never e
 is-bytes asBytes e = refl
 is-bytes (asFixed content) e = never e
 
@@ -126,7 +127,7 @@ the-trailer r e = same-code r FileTrailer (without (hasBytes r) (each (λ r. has
 
 in-trailer : {A : Type 0} (d : Direction) (v : Fields) → Ruined v → firstBroken (rulesOf (fieldsOf FileTrailer) d (recordOf FileTrailer v)) ≡ Accepted → A
 unfolding fieldsOf
-in-trailer d v x e = no-number FileTrailer d v (x .text) ruinedAt (lit≤ tt) refl refl (rw (x .number) (lit≤ tt)) e
+in-trailer d v x e = no-number FileTrailer d v (x .text) ruinedAt (lit≤ tt) refl refl (x .number) (lit≤ tt) e
 
 -- such a record breaks a rule
 pub ruined : {A : Type 0} (r : Record) (d : Direction) (v : Fields) → Ruined v

@@ -1,7 +1,7 @@
 -- How a number is refused that has more digits than its field. Assumes nothing.
 use mathlib.Core.Bool.{Bool, true, false, cond}
 use Prim.Native.Nat.{ℕ}
-use Rattle.layout.specs.Field.{Kind, N, Id, T, F, D, Time, K, O, Zeros, Exact, OneOf, Service, Form, Barcode, RecordType, Segment, Field}
+use Rattle.layout.specs.Field.{Kind, N, NOrBlank, Id, T, F, D, Time, K, O, Zeros, Exact, OneOf, Service, Form, Barcode, RecordType, Segment, Field}
 use Rattle.layout.specs.Table.{serviceField}
 
 -- the refusal's number, and whether the rule is the pair's, which the service carries
@@ -20,6 +20,7 @@ pairsRule = record { number = 14; paired = true }
 -- 0 stands for the kinds that are not held as numbers
 abbrev pub wide : Kind → Wide
 wide N = ownRule 8
+wide NOrBlank = ownRule 8
 wide Id = ownRule 0
 wide T = ownRule 0
 wide F = ownRule 0

@@ -1,5 +1,5 @@
 -- What the writer fills: numbers, each at its index; every other number, and the text, is the caller's. Assumes nothing.
-use mathlib.Core.Path.{_≡_, refl, _∙_}
+use mathlib.Core.Path.{_≡_, refl, ap₂, _∙_}
 use mathlib.Core.Bool.{Bool, true, false, cond, _||_}
 use mathlib.Core.List.{List, [], _∷_}
 use Prim.Native.Nat.{ℕ, _+_, _<_}
@@ -17,7 +17,9 @@ use Rattle.layout.specs.declared.shapes.LineType.the-variants.{FileFirst, Batch
 use Rattle.layout.specs.Records.{shapeOf}
 use Rattle.layout.specs.laws.Indexes.{number-index}
 use Rattle.checker.specs.Totals.{batchCount, recordCount, centSum}
-use Rattle.fields.specs.Values.{mostFields}
+use Rattle.fields.specs.Values.{mostFields, numberIf, nth}
+use Rattle.digits.specs.declared.spelling.Number.{Number}
+use Rattle.digits.specs.declared.spelling.Number.the-variants.{Is}
 use Rattle.fields.specs.declared.Fields.{Fields}
 use Rattle.checker.specs.Line.{ordinal, headerBatch, trailerBatch}
 use Rattle.checker.specs.declared.Checker.{Checker}
@@ -53,14 +55,14 @@ fillsBy FileLast r s =
 abbrev pub fillsIn : Record → Checker → List Fill
 fillsIn r s = fillsBy (shapeOf r .line) r s
 
--- whether one is filled at an index; and the number there, n if none is filled
+-- whether one is filled at an index; and the number there, m if none is filled
 abbrev pub fillsAt : List Fill → ℕ → Bool
 fillsAt [] j = false
 fillsAt (f ∷ fs) j = eqb j (f .index) || fillsAt fs j
 
-abbrev pub numberFrom : List Fill → ℕ → ℕ → ℕ
-numberFrom [] j n = n
-numberFrom (f ∷ fs) j n = cond (eqb j (f .index)) (f .number) (numberFrom fs j n)
+abbrev pub numberFrom : List Fill → ℕ → Number → Number
+numberFrom [] j m = m
+numberFrom (f ∷ fs) j m = cond (eqb j (f .index)) (Is (f .number)) (numberFrom fs j m)
 
 -- ---- one behind the other
 
@@ -69,30 +71,38 @@ record Filled (v u : Fields) (fs : List Fill) : Type 0 where
   which : u .which ≡ v .which
   text : u .text ≡ v .text
   long : length (u .numbers) ≡ length (v .numbers)
-  others : (j : ℕ) → fillsAt fs j ≡ false → getD (u .numbers) j 0 ≡ getD (v .numbers) j 0
-  each : Whole v → (j : ℕ) → getD (u .numbers) j 0 ≡ numberFrom fs j (getD (v .numbers) j 0)
+  flagged : length (u .given) ≡ length (v .given)
+  others : (j : ℕ) → fillsAt fs j ≡ false → nth j u ≡ nth j v
+  each : Whole v → (j : ℕ) → nth j u ≡ numberFrom fs j (nth j v)
 
 unfilled : {v : Fields} → Filled v v []
-unfilled = record { which = refl; text = refl; long = refl; others = λ j e. refl; each = λ h j. refl }
+unfilled = record { which = refl; text = refl; long = refl; flagged = refl; others = λ j e. refl; each = λ h j. refl }
 
 neither : (a b : Bool) → (a || b) ≡ false → (a ≡ false) × (b ≡ false)
 neither true b e = (e, cc)
 neither false b e = (refl, e)
 
 put : {v u : Fields} {fs : List Fill} {i n : ℕ} → i < mostFields → Filled v u fs
-    → Filled v (record { which = u .which; numbers = set (u .numbers) i n; text = u .text }) (fill i n ∷ fs)
+    → Filled v (record { which = u .which; numbers = set (u .numbers) i n; given = set (u .given) i true; text = u .text }) (fill i n ∷ fs)
 put {v} {u} {fs} {i} {n} l b =
     record {
       which = b .which;
       text = b .text;
       long = simp length-set (b .long);
-      others = λ j e. let f = neither (eqb j i) (fillsAt fs j) e in getD-set-other (u .numbers) i j n 0 (eqb-false j i (f .0)) ∙ b .others j (f .1);
+      flagged = simp length-set (b .flagged);
+      others = λ j e. let f = neither (eqb j i) (fillsAt fs j) e in other j (f .0) ∙ b .others j (f .1);
       each = λ h j. go h j (eqb j i) refl;
     }
   where
-    go : Whole v → (j : ℕ) (t : Bool) → eqb j i ≡ t → getD (set (u .numbers) i n) j 0 ≡ cond t n (numberFrom fs j (getD (v .numbers) j 0))
-    go h j true e = rw (eqb-true j i e) (getD-set-same (u .numbers) i n 0 (omega (arith, b .long, h .numbers)))
-    go h j false e = getD-set-other (u .numbers) i j n 0 (eqb-false j i e) ∙ b .each h j
+    other : (j : ℕ) → eqb j i ≡ false → numberIf (getD (set (u .given) i true) j false) (getD (set (u .numbers) i n) j 0) ≡ nth j u
+    other j e = ap₂ numberIf (getD-set-other (u .given) i j true false (eqb-false j i e)) (getD-set-other (u .numbers) i j n 0 (eqb-false j i e))
+
+    go : Whole v → (j : ℕ) (t : Bool) → eqb j i ≡ t
+        → numberIf (getD (set (u .given) i true) j false) (getD (set (u .numbers) i n) j 0) ≡ cond t (Is n) (numberFrom fs j (nth j v))
+    go h j true e =
+        rw (eqb-true j i e)
+        (ap₂ numberIf (getD-set-same (u .given) i true false (omega (arith, b .flagged, h .given))) (getD-set-same (u .numbers) i n 0 (omega (arith, b .long, h .numbers))))
+    go h j false e = other j e ∙ b .each h j
 
 is-filled : (r : Record) (s : Checker) (v : Fields) → Filled v (filled r s v) (fillsIn r s)
 unfolding filled indexOf before fieldsOf
@@ -114,8 +124,8 @@ module _ (r : Record) (s : Checker) (v : Fields) where
   pub filled-text : filled r s v .text ≡ v .text
   filled-text = is-filled r s v .text
 
-  pub filled-numbers : Whole v → (j : ℕ) → getD (filled r s v .numbers) j 0 ≡ numberFrom (fillsIn r s) j (getD (v .numbers) j 0)
+  pub filled-numbers : Whole v → (j : ℕ) → nth j (filled r s v) ≡ numberFrom (fillsIn r s) j (nth j v)
   filled-numbers = is-filled r s v .each
 
-  pub not-filled : (j : ℕ) → fillsAt (fillsIn r s) j ≡ false → getD (filled r s v .numbers) j 0 ≡ getD (v .numbers) j 0
+  pub not-filled : (j : ℕ) → fillsAt (fillsIn r s) j ≡ false → nth j (filled r s v) ≡ nth j v
   not-filled = is-filled r s v .others

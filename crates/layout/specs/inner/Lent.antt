@@ -7,10 +7,10 @@ use lib.Dec.{leb, ltb, eqb}
 use lib.ListN.{length, getD, take}
 use Rattle.digits.specs.Digits.{digitByte}
 use Rattle.digits.specs.laws.Strings.{tab}
-use Rattle.layout.specs.Field.{Kind, N, Id, T, F, D, Time, K, O, Zeros, Exact, OneOf, Service, Form, Barcode, RecordType, Segment, Field}
+use Rattle.layout.specs.Field.{Kind, N, NOrBlank, Id, T, F, D, Time, K, O, Zeros, Exact, OneOf, Service, Form, Barcode, RecordType, Segment, Field}
 use Rattle.layout.specs.Table.{fieldsOf, zeroOneTwo, zeroNine, oneTwo, exactC, exact09, exact52, fieldsOfEach, all}
 use Rattle.layout.specs.Records.{code, records}
-use Rattle.layout.specs.Kinds.{Held, asNumber, asBytes, asFixed, means, blank}
+use Rattle.layout.specs.Kinds.{Held, aNumber, asBytes, asFixed, means, blank}
 use Rattle.layout.specs.declared.fixed.Content.{Content}
 use Rattle.layout.specs.declared.fixed.Content.the-variants.{Run, LetterC, Code09, Code52}
 use Rattle.layout.specs.declared.kinds.Fill.{Fill}
@@ -41,9 +41,16 @@ entryIn from to kind f = record { from = inColumn from f; to = inColumn to f; ki
 -- ---- kinds by number
 
 abbrev pub kinds : List Kind
-kinds = N ∷ D ∷ Time ∷ zeroNine ∷ Service ∷ Barcode ∷ T ∷ Form ∷ zeroOneTwo ∷ oneTwo ∷ Id ∷ O ∷ K ∷ Zeros ∷ exactC ∷ exact09 ∷ exact52 ∷ []
+kinds = N ∷ D ∷ Time ∷ zeroNine ∷ Service ∷ Barcode ∷ T ∷ Form ∷ zeroOneTwo ∷ oneTwo ∷ Id ∷ O ∷ K ∷ Zeros ∷ exactC ∷ exact09 ∷ exact52 ∷ NOrBlank ∷ []
 
--- D to T have a rule for the field as a whole
+abbrev pub kindCount : ℕ
+kindCount = length kinds
+
+-- the number of the kind of a number that may be not given
+abbrev pub nOrBlank : ℕ
+nOrBlank = 17
+
+-- D to T have a rule that asks more than the masks of a record tell
 abbrev pub whole? : ℕ → Bool
 whole? n = leb 1 n && leb n 6
 
@@ -66,6 +73,7 @@ kindOf n = cond (mark? n) (cond (ltb n firstLetter) (RecordType n) (Segment n)) 
 -- a width that a field of a kind may have: exact content has one width, and a domain is of one byte
 abbrev pub mayBe : Kind → ℕ → Bool
 mayBe N w = true
+mayBe NOrBlank w = true
 mayBe Id w = true
 mayBe T w = true
 mayBe F w = true
@@ -107,7 +115,7 @@ abbrev pub contentBy : ℕ → Content
 contentBy n = cond (mark? n) (Run n) (getD contents (n - firstFixed) (Run blank))
 
 abbrev pub fillAs : Held → Content → Fill
-fillAs asNumber c = Number
+fillAs (aNumber p) c = Number
 fillAs asBytes c = Text
 fillAs (asFixed content) c = Fixed c
 

@@ -1,22 +1,22 @@
 -- Bytes compared, looked through and copied, one at a time. Assumes nothing.
-use mathlib.Core.Path.{_≡_, refl, ap, ap₂}
-use mathlib.Core.Bool.{Bool, true, false, cond, _&&_, _||_, and-false}
+use mathlib.Core.Path.{_≡_, refl, sym, ap, ap₂}
+use mathlib.Core.Bool.{Bool, true, false, cond, _&&_, _||_, and-false, or-false}
 use mathlib.Core.List.{List, [], _∷_, _++_, append-assoc}
 use Prim.Native.Nat.{ℕ, zero, suc, _-_, _≤_, _<_, zero-le, suc-le-suc}
 use native.Mathlib.Nat.{min-eq-left, sub-zero, zero-sub, suc-sub-suc}
 use native.Mathlib.Omega.{arith}
-use borrow.Author.Tests.{eqb-true, eq-eqb, ne-eqb}
+use borrow.Author.Tests.{eqb-true, eq-eqb, ne-eqb, eqb-false}
 use lib.Dec.{eqb, eqb·suc-suc}
 use lib.ListN.{length, getD, take, drop, set, replicate, drop-of-length-le, take-append-drop, length-take, length-drop}
 use lib.Seq.{drop-cons, take-suc-set, drop-set-lt}
-use Rattle.digits.specs.Digits.{places}
+use Rattle.digits.specs.Digits.{places, leading, allDigits}
 use Rattle.digits.specs.Numbers.{numberOf}
 use Rattle.digits.specs.declared.spelling.Number.{Number}
 use Rattle.digits.specs.declared.spelling.Number.the-variants.{Not}
 use Rattle.calendar.specs.Calendar.{numberFits}
 use Rattle.answer.specs.Output.{over}
 use Rattle.layout.specs.Pairs.{Pairs, pairs, among, batchAmong, batchOf}
-use Rattle.layout.specs.Kinds.{same}
+use Rattle.layout.specs.Kinds.{same, run, blank, isFixed, numberOrBlank}
 use Rattle.layout.specs.Record.{printable, clean, allPrintable}
 use Rattle.layout.specs.declared.Direction.{Direction}
 use Rattle.layout.specs.declared.pairs.Batch.the-variants.{Unknown}
@@ -53,6 +53,21 @@ same-turn xs ys i h k = rw (drop-cons xs i 0 h, drop-cons ys i 0 k)
 pub same-end : (xs ys : List ℕ) (i : ℕ) → length xs ≤ i → length ys ≤ i → same (drop i xs) (drop i ys) ≡ true
 unfolding same
 same-end xs ys i h k = rw (drop-of-length-le xs {i = i} h, drop-of-length-le ys {i = i} k)
+
+-- ---- digits or blanks: the first byte tells which
+
+pub blank-first : (bs : List ℕ) → getD bs 0 0 ≡ blank → allDigits bs ≡ false
+unfolding leading
+blank-first [] e = absurd (omega arith)
+blank-first (b ∷ bs) e = rw (e, ne-eqb 0 (suc (length bs)) (λ z. omega arith))
+
+pub blanks-asked : (bs : List ℕ) → getD bs 0 0 ≡ blank → numberOrBlank bs ≡ isFixed (run blank) bs
+blanks-asked bs e = rw (blank-first bs e)
+
+pub digits-asked : (bs : List ℕ) → eqb (getD bs 0 0) blank ≡ false → numberOrBlank bs ≡ allDigits bs
+unfolding leading same
+digits-asked [] e = refl
+digits-asked (b ∷ bs) e = rw (ne-eqb blank b (λ z. eqb-false b blank e (sym z))) (or-false (allDigits (b ∷ bs)))
 
 -- ---- one of these bytes
 
@@ -134,7 +149,7 @@ over-all (b ∷ text) (x ∷ out) e = ap (λ (l : List ℕ). b ∷ l) (over-all 
 
 -- ---- one byte many times
 
-pub drop-replicate : (k n x : ℕ) → drop k (replicate n x) ≡ replicate (n - k) x
+pub drop-replicate : {A : Type 0} (k n : ℕ) (x : A) → drop k (replicate n x) ≡ replicate (n - k) x
 drop-replicate zero n x = rw sub-zero
 drop-replicate (suc k) zero x = rw zero-sub
 drop-replicate (suc k) (suc n) x = rw suc-sub-suc (drop-replicate k n x)

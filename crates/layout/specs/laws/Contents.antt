@@ -6,12 +6,14 @@ use Prim.Native.Nat.{ℕ, zero, suc, _≤_, _<_}
 use native.Mathlib.Nat.{le-of-suc-le-suc, not-suc-le-zero}
 use native.Mathlib.Decide.{decLt}
 use native.Mathlib.Omega.{arith}
-use lib.Dec.{T, ltb, eqb, eqb→eq}
+use borrow.Author.Tests.{leb-true, ne-eqb}
+use lib.Dec.{T, leb, ltb, eqb, eqb→eq}
 use lib.ListN.{length, getD, List·getD-eq-default}
 use Rattle.digits.specs.laws.Strings.{tab}
-use Rattle.layout.specs.inner.Lent.{kinds, firstLetter, mark?, kindOf, contentOf, fillAs, fillOf, mayBe}
+use Rattle.layout.specs.laws.Bytes.{and-left}
+use Rattle.layout.specs.inner.Lent.{kinds, kindCount, nOrBlank, firstMark, firstLetter, mark?, kindOf, contentOf, fillAs, fillOf, mayBe}
 use Rattle.layout.specs.Field.{Kind, F, RecordType, Segment}
-use Rattle.layout.specs.Kinds.{asNumber, asBytes, asFixed, means, run, text}
+use Rattle.layout.specs.Kinds.{Presence, aNumber, asBytes, asFixed, mayBeAbsent, means, run, text}
 use Rattle.layout.specs.declared.fixed.Content.{Content}
 use Rattle.layout.specs.declared.fixed.Content.the-variants.{Run, LetterC, Code09, Code52}
 use Rattle.layout.specs.declared.kinds.Fill.{Fill}
@@ -49,7 +51,7 @@ exact-is c bs e w t = rw (eqb→eq w (length bs) t) e
 
 -- fixed content has the width that the kind may have
 pub data Filled (k : Kind) : Fill → Type 0 where
-  a-number : means k .held ≡ asNumber → Filled k Number
+  a-number : {p : Presence} → means k .held ≡ aNumber p → Filled k Number
   its-text : means k .held ≡ asBytes → Filled k Text
   fixed : {content : ℕ → List ℕ} {c : Content} → means k .held ≡ asFixed content → ((w : ℕ) → T (mayBe k w) → contentOf c w ≡ content w) → Filled k (Fixed c)
 
@@ -71,11 +73,11 @@ none-below k n b = go (decLt k n)
     go (yes h) = absurd (below-at (λ m. k ≡ m → ⊥) n b k h refl)
     go (no h) = omega arith
 
-kinds-filled : Below (λ n. Filled (kindOf n) (fillOf n)) 17
-kinds-filled = (a-number refl, (a-number refl, (a-number refl, (a-number refl, (a-number refl, (its-text refl, (its-text refl, (a-number refl, (a-number refl, (a-number refl, (its-text refl, (its-text refl, (fixed refl (λ w t. run-is 32 w), (fixed refl (λ w t. run-is 48 w), (fixed refl (exact-is LetterC (67 ∷ []) refl), (fixed refl (exact-is Code09 (48 ∷ 57 ∷ []) refl), (fixed refl (exact-is Code52 (53 ∷ 50 ∷ []) refl), tt)))))))))))))))))
+kinds-filled : Below (λ n. Filled (kindOf n) (fillOf n)) kindCount
+kinds-filled = (a-number refl, (a-number refl, (a-number refl, (a-number refl, (a-number refl, (its-text refl, (its-text refl, (a-number refl, (a-number refl, (a-number refl, (its-text refl, (its-text refl, (fixed refl (λ w t. run-is 32 w), (fixed refl (λ w t. run-is 48 w), (fixed refl (exact-is LetterC (67 ∷ []) refl), (fixed refl (exact-is Code09 (48 ∷ 57 ∷ []) refl), (fixed refl (exact-is Code52 (53 ∷ 50 ∷ []) refl), (a-number refl, tt))))))))))))))))))
 
 -- any other number is F
-pub other-kind : (n : ℕ) → mark? n ≡ false → 17 ≤ n → kindOf n ≡ F
+pub other-kind : (n : ℕ) → mark? n ≡ false → kindCount ≤ n → kindOf n ≡ F
 other-kind n e h = rw e (List·getD-eq-default kinds F {n = n} h)
 
 -- a type and a segment are a run of their byte
@@ -95,9 +97,26 @@ mark-filled n e = rw e (go (ltb n firstLetter))
 
 -- the kind of each number is filled as the code fills it
 pub filled : (n : ℕ) → Filled (kindOf n) (fillOf n)
-filled n = go (mark? n) refl (decLt n 17)
+filled n = go (mark? n) refl (decLt n kindCount)
   where
-    go : (b : Bool) → mark? n ≡ b → Dec (n < 17) → Filled (kindOf n) (fillOf n)
+    go : (b : Bool) → mark? n ≡ b → Dec (n < kindCount) → Filled (kindOf n) (fillOf n)
     go true e d = mark-filled n e
-    go false e (yes h) = below-at (λ n. Filled (kindOf n) (fillOf n)) 17 kinds-filled n h
+    go false e (yes h) = below-at (λ n. Filled (kindOf n) (fillOf n)) kindCount kinds-filled n h
     go false e (no h) = rw (other-kind n e (omega arith)) (its-text refl)
+
+-- ---- the kind of a number that may be not given
+
+kinds-absent : Below (λ n. mayBeAbsent (means (kindOf n) .held) ≡ eqb n nOrBlank) kindCount
+kinds-absent = (refl, (refl, (refl, (refl, (refl, (refl, (refl, (refl, (refl, (refl, (refl, (refl, (refl, (refl, (refl, (refl, (refl, (refl, tt))))))))))))))))))
+
+pub absent-is : (n : ℕ) → mayBeAbsent (means (kindOf n) .held) ≡ eqb n nOrBlank
+absent-is n = go (mark? n) refl (decLt n kindCount)
+  where
+    mark : (b : Bool) → mayBeAbsent (means (cond b (RecordType n) (Segment n)) .held) ≡ false
+    mark true = refl
+    mark false = refl
+
+    go : (b : Bool) → mark? n ≡ b → Dec (n < kindCount) → mayBeAbsent (means (kindOf n) .held) ≡ eqb n nOrBlank
+    go true e d = let l = leb-true firstMark n (and-left (leb firstMark n) _ e) in rw (e, mark (ltb n firstLetter), ne-eqb n nOrBlank (λ z. omega arith))
+    go false e (yes h) = below-at (λ n. mayBeAbsent (means (kindOf n) .held) ≡ eqb n nOrBlank) kindCount kinds-absent n h
+    go false e (no h) = rw (other-kind n e (omega arith), ne-eqb n nOrBlank (λ z. omega arith))

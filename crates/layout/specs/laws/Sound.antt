@@ -8,9 +8,9 @@ use lib.ListN.{length, getD}
 use Rattle.digits.specs.Digits.{leading, allDigits}
 use Rattle.digits.specs.Numbers.{mostDigits}
 use Rattle.digits.specs.laws.Tests.{both}
-use Rattle.layout.specs.Field.{Kind, N, Id, T as Text, F, D, Time, K, O, Zeros, Exact, OneOf, Service, Form, Barcode, RecordType, Segment, Field, none}
+use Rattle.layout.specs.Field.{Kind, N, NOrBlank, Id, T as Text, F, D, Time, K, O, Zeros, Exact, OneOf, Service, Form, Barcode, RecordType, Segment, Field, none}
 use Rattle.layout.specs.Table.{serviceField, formField, fieldsOf}
-use Rattle.layout.specs.Kinds.{Held, asNumber, asBytes, asFixed, means}
+use Rattle.layout.specs.Kinds.{Held, aNumber, asBytes, asFixed, means}
 use Rattle.layout.specs.inner.Lent.{mayBe}
 use Rattle.layout.specs.laws.Tiling.{All, at}
 use Rattle.layout.specs.declared.Record.{Record}
@@ -21,7 +21,7 @@ width f = f .to - (f .from - 1)
 
 -- as a field is held: a number's digits fit 64 bits, fixed content has the field's width
 abbrev pub fills : Held → ℕ → Bool
-fills asNumber w = leb w mostDigits
+fills (aNumber p) w = leb w mostDigits
 fills asBytes w = true
 fills (asFixed content) w = eqb (length (content w)) w
 
@@ -32,6 +32,7 @@ stands g f = eqb (f .from) (g .from) && eqb (f .to) (g .to)
 -- what a kind asks besides
 abbrev pub proper : Kind → Field → Bool
 proper N f = true
+proper NOrBlank f = true
 proper Id f = true
 proper Text f = true
 proper F f = true

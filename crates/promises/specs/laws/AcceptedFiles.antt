@@ -18,7 +18,7 @@ use Rattle.checker.specs.Line.{lineFrom, within, boletoRules, rulesOfType, rule
 use Rattle.checker.specs.Machine.{sound, stepOf}
 use Rattle.files.specs.File.{cut, steps, endOf, finish, checkFile}
 use Rattle.files.specs.declared.whole.Outcome.the-variants.{Accepted}
-use Rattle.promises.specs.Examples.{bytes}
+use Rattle.layout.specs.Examples.{bytes}
 use Rattle.promises.specs.Guarded.{changed}
 
 abbrev pub creditFile : List ℕ

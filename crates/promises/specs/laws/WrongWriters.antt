@@ -19,8 +19,8 @@ use Rattle.layout.specs.Table.{fieldsOf, recordBytes}
 use Rattle.layout.specs.Names.{before, indexOf}
 use Rattle.layout.specs.declared.Record.{Record}
 use Rattle.layout.specs.declared.Record.the-variants.{FileHeader, BatchHeader, SegmentA, SegmentB}
-use Rattle.fields.specs.Values.{fieldsIn, numbersIn, joined, recordOf, ofRecord}
-use Rattle.fields.specs.laws.RoundTrip.{numbers-length}
+use Rattle.fields.specs.Values.{fieldsIn, joined, recordOf, ofRecord}
+use Rattle.fields.specs.laws.RoundTrip.{whole-read}
 use Rattle.fields.specs.declared.Fields.{Fields}
 use Rattle.checker.specs.Totals.{add}
 use Rattle.checker.specs.Line.{lineBytes, recordIn, boletoRules}
@@ -114,7 +114,7 @@ fresh lines = run 0 (lines * lineBytes)
 
 read-whole : (r : Record) (rec : List ℕ) → length rec ≡ recordBytes → Whole (ofRecord r (fieldsIn r rec))
 unfolding fieldsIn
-read-whole r rec long = record { numbers = numbers-length r rec; text = long }
+read-whole r rec long = let w = whole-read r rec long in record { numbers = w .numbers; given = w .given; text = w .text }
 
 opened-whole : (out : List ℕ) → WholeCalls (lentFirst opened out)
 unfolding lentOn
@@ -148,7 +148,7 @@ record Computed : Type 0 where
   twice-fifth : getD (fileOf (lentFirst paidTwice (fresh 6))) (4 * lineBytes) 0 ≡ digitByte 0
 
 computed : Computed
-unfolding flatten rightAnswers before indexOf written linesFor behindAll lentOn answerOf callRules held allGiven givenRules fieldsIn numbersIn joined recordOf filled numeral lastDigits firstBroken leading weighed numberOf exists dateFits timeFits same batchOf rulesOf clean fieldsOf boletoRules sound add
+unfolding flatten rightAnswers before indexOf written linesFor behindAll lentOn answerOf callRules held allGiven givenRules fieldsIn joined recordOf filled numeral lastDigits firstBroken leading weighed numberOf exists dateFits timeFits same batchOf rulesOf clean fieldsOf boletoRules sound add
 computed = record { answers = refl; opened-long = refl; opened-first = refl; paid-long = refl; twice-long = refl; twice-fifth = refl }
 
 -- ---- the wrong writers

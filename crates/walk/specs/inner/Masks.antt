@@ -1,4 +1,4 @@
--- The masks of a record: the lowest and the highest byte that may stand at each place. Assumes nothing.
+-- The masks of a record: at each place the lowest and the highest byte of a record that is looked at no further. Assumes nothing.
 use mathlib.Core.Path.{_≡_}
 use mathlib.Core.Bool.{Bool, true, false, cond, _&&_}
 use mathlib.Core.List.{List, [], _∷_, _++_}
@@ -9,7 +9,7 @@ use Rattle.answer.specs.Rules.{firstBroken}
 use Rattle.answer.specs.declared.Answer.the-variants.{Accepted}
 use Rattle.digits.specs.Digits.{digitByte}
 use Rattle.digits.specs.laws.Strings.{tab}
-use Rattle.layout.specs.Field.{Kind, N, Id, T, F, D, Time, K, O, Zeros, Exact, OneOf, Service, Form, Barcode, RecordType, Segment, Field, none}
+use Rattle.layout.specs.Field.{Kind, N, NOrBlank, Id, T, F, D, Time, K, O, Zeros, Exact, OneOf, Service, Form, Barcode, RecordType, Segment, Field, none}
 use Rattle.layout.specs.Table.{all}
 use Rattle.layout.specs.Kinds.{blank, same}
 use Rattle.layout.specs.Record.{fieldRules}
@@ -17,7 +17,8 @@ use Rattle.layout.specs.laws.Sound.{width}
 use Rattle.layout.specs.declared.Direction.{Direction}
 use Rattle.layout.specs.declared.Direction.the-variants.{Remittance, Return}
 
--- at each place of a field, counted from 0; and whether bytes between the two are all that the field's rules ask
+-- at each place of a field, counted from 0; and whether all bytes between the two keep the field's rules, as digits keep those of a number that may be
+-- not given
 pub record Mask : Type 0 where
   pub low : ℕ → ℕ
   pub high : Direction → ℕ → ℕ
@@ -56,6 +57,7 @@ highestIn Return = tilde
 
 abbrev pub maskOf : Kind → Mask
 maskOf N = digits true
+maskOf NOrBlank = digits true
 maskOf Id = digits true
 maskOf T = free false
 maskOf F = free true

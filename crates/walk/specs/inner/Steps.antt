@@ -24,9 +24,12 @@ pub data Looked (k : Kind) (p : Part) : Look → Type 0 where
       → Looked k p (Fixed number c)
   tested : {a : Answer} → a ≡ firstBroken (means k .rules p) → Looked k p (Tested a)
 
--- how to look at a type or a segment, and at text
+-- how to look at a type or a segment, at text, and at a number that may be not given
 abbrev pub markLook : ℕ → Look
 markLook b = cond (ltb b firstLetter) (Fixed 6 (Run b)) (Fixed 11 (Run b))
 
 abbrev pub textLook : List ℕ → Look
 textLook bs = cond (eqb (getD bs 0 0) blank) (Fixed 13 (Run blank)) (Tested Accepted)
+
+abbrev pub numberOrBlankLook : List ℕ → Look
+numberOrBlankLook bs = cond (eqb (getD bs 0 0) blank) (Fixed 8 (Run blank)) Digits

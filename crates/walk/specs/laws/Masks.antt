@@ -17,9 +17,9 @@ use Rattle.answer.specs.declared.Answer.the-variants.{Accepted}
 use Rattle.digits.specs.Digits.{allDigits}
 use Rattle.digits.specs.laws.Strings.{tab, all-leading}
 use Rattle.digits.specs.laws.Tests.{every, every-at}
-use Rattle.layout.specs.inner.Lent.{startOf, whole?, mark?, firstLetter, kindOf, mayBe}
+use Rattle.layout.specs.inner.Lent.{startOf, kindCount, whole?, mark?, firstLetter, kindOf, mayBe}
 use Rattle.layout.specs.Pairs.{among}
-use Rattle.layout.specs.Field.{Kind, N, Id, T as Text, F, D, Time, K, O, Zeros, Exact, OneOf, Service, Form, Barcode, RecordType, Segment, Field, none}
+use Rattle.layout.specs.Field.{Kind, N, NOrBlank, Id, T as Text, F, D, Time, K, O, Zeros, Exact, OneOf, Service, Form, Barcode, RecordType, Segment, Field, none}
 use Rattle.layout.specs.Table.{fieldsOf, recordBytes, tiles, all}
 use Rattle.layout.specs.Kinds.{aPart, means, same, oneOf, blank}
 use Rattle.walk.specs.inner.Masks.{bytesFrom, maskOf, domainMask, highestIn, between, free, lowsOf, highsOf, within, Right}
@@ -111,6 +111,7 @@ module _ (d : Direction) (place : ℕ) (bs whole : List ℕ) where
 
   kind-kept : (k : Kind) → T (mayBe k (length bs)) → Bounded (maskOf k .low) (maskOf k .high d) bs → maskOf k .enough ≡ true → firstBroken (means k .rules (aPart place bs whole d)) ≡ Accepted
   kind-kept N m b e = kept 8 (digits-kept b)
+  kind-kept NOrBlank m b e = kept 8 (rw (digits-kept b))
   kind-kept Id m b e = kept 8 (digits-kept b)
   kind-kept Text m b e = cc
   kind-kept F m b e = sym done
@@ -127,21 +128,21 @@ module _ (d : Direction) (place : ℕ) (bs whole : List ℕ) where
   kind-kept (RecordType x) m b e = kept 6 (exact-kept (x ∷ []) m b)
   kind-kept (Segment x) m b e = kept 11 (exact-kept (x ∷ []) m b)
 
--- a kind whose number is none of those with a rule for the field as a whole
-bytewise : T (every 17 (λ n. whole? n || maskOf (kindOf n) .enough))
+-- a kind whose number is none of those whose rule asks more than the masks
+bytewise : T (every kindCount (λ n. whole? n || maskOf (kindOf n) .enough))
 unfolding every same
 bytewise = tt
 
 pub enough : (n : ℕ) → whole? n ≡ false → maskOf (kindOf n) .enough ≡ true
-enough n w = go (mark? n) refl (decLt n 17)
+enough n w = go (mark? n) refl (decLt n kindCount)
   where
     mark : (b : Bool) → maskOf (cond b (RecordType n) (Segment n)) .enough ≡ true
     mark true = refl
     mark false = refl
 
-    go : (b : Bool) → mark? n ≡ b → Dec (n < 17) → maskOf (kindOf n) .enough ≡ true
+    go : (b : Bool) → mark? n ≡ b → Dec (n < kindCount) → maskOf (kindOf n) .enough ≡ true
     go true e k = rw e (mark (ltb n firstLetter))
-    go false e (yes h) = so _ (rw w at (every-at 17 _ bytewise n h))
+    go false e (yes h) = so _ (rw w at (every-at kindCount _ bytewise n h))
     go false e (no h) = rw (other-kind n e (omega arith))
 
 -- ---- all fields

@@ -22,7 +22,7 @@ use Rattle.layout.specs.Names.{before, indexOf}
 use Rattle.layout.specs.declared.Record.{Record}
 use Rattle.layout.specs.declared.Record.the-variants.{SegmentA, SegmentJ}
 use Rattle.layout.specs.laws.Records.{by-amount}
-use Rattle.fields.specs.Values.{ofRecord, nth}
+use Rattle.fields.specs.Values.{ofRecord, nth, orZero}
 use Rattle.fields.specs.declared.Fields.{Fields}
 use Rattle.checker.specs.Totals.{tally, bare, none, add, centSum, withdrawal, withdraws, counts, centsOf}
 use Rattle.checker.specs.laws.Sums.{both-parts, InAll, same-totals, add-none, add-assoc, counted, next-counts}
@@ -41,7 +41,7 @@ use Rattle.writer.specs.laws.Paying.{drop-one}
 use Rattle.writer.specs.laws.Given.{begins-with}
 use Rattle.writer.specs.laws.Accepted as accepted
 use Rattle.writer.specs.laws.Accepted.{kept, Right, Rights, rights}
-use Rattle.writer.specs.laws.Reads.{stands-at, GivenAt, read-given}
+use Rattle.writer.specs.laws.Reads.{stands-at, GivenAt, number-given}
 use Rattle.writer.specs.laws.Lines.{bytes-length}
 
 -- ---- one record
@@ -72,11 +72,11 @@ told rec n long e = digit-told (place (movementField .from) rec) n withdrawal (r
 
 module _ {expected : List Record} {s : Checker} {r : Record} (v : Fields) (t : Right expected s (ofRecord r v)) where
   -- the amount is read as it was given, and so is whether the payment is withdrawn
-  same-amount : {f : Field} → GivenAt r f → value (part f (bytesOf s (ofRecord r v))) ≡ nth (indexOf r f) v
-  same-amount g = value-is _ _ (read-given v (t .well) g)
+  same-amount : {f : Field} → GivenAt r f → value (part f (bytesOf s (ofRecord r v))) ≡ orZero (nth (indexOf r f) v)
+  same-amount g = value-is _ _ (number-given v (t .well) g)
 
   same-movement : GivenAt r movementField → withdraws (bytesOf s (ofRecord r v)) ≡ withdrawsAs r v
-  same-movement g = told (bytesOf s (ofRecord r v)) _ (bytes-length s (ofRecord r v) (t .well .whole)) (read-given v (t .well) g)
+  same-movement g = told (bytesOf s (ofRecord r v)) _ (bytes-length s (ofRecord r v) (t .well .whole)) (number-given v (t .well) g)
 
 -- the amount that is read is the one that was given
 abbrev AmountIs : Record → Type 0

@@ -19,7 +19,7 @@ use Rattle.layout.specs.Field.{Field}
 use Rattle.layout.specs.laws.Records.{the-one, itself}
 use Rattle.layout.specs.declared.pairs.Batch.{Batch}
 use Rattle.layout.specs.Names.{indexOf}
-use Rattle.fields.specs.Values.{nth}
+use Rattle.fields.specs.Values.{nth, orZero}
 use Rattle.fields.specs.declared.Fields.{Fields}
 use Rattle.checker.specs.Order.{payment, recordAt, readingOf}
 use Rattle.checker.specs.Line.{found}
@@ -158,7 +158,7 @@ expected-last d b some e = rw (last-position d (payment b) some) (expected-z e)
 -- a record that has an amount begins a payment
 abbrev tallyAs : Bool → Record → List Field → Fields → Tally
 tallyAs such r [] v = noPayments
-tallyAs such r (f ∷ fs) v = only such (tally 1 (nth (indexOf r f) v))
+tallyAs such r (f ∷ fs) v = only such (tally 1 (orZero (nth (indexOf r f) v)))
 
 abbrev pub countsAs : Record → Fields → Totals
 countsAs r v =

@@ -21,25 +21,38 @@ use Rattle.layout.specs.declared.Record.{Record}
 use Rattle.layout.specs.declared.Record.the-variants.{FileHeader, BatchHeader, BatchTrailer, FileTrailer}
 use Rattle.layout.specs.declared.shapes.LineType.the-variants.{Detail}
 use Rattle.layout.specs.laws.Records.{by-type}
-use Rattle.fields.specs.Values.{heldAs, recordOf, mostFields, fieldsIn, setNth, ofRecord}
-use Rattle.fields.specs.laws.RoundTrip.{numbers-length, number-in, fields-then-written}
+use Rattle.fields.specs.Values.{heldAs, numberIf, nth, isGiven, orZero, recordOf, mostFields, fieldsIn, setNth, ofRecord}
+use Rattle.fields.specs.laws.RoundTrip.{whole-read, number-in, fields-then-written}
 use Rattle.fields.specs.declared.Fields.{Fields}
 use Rattle.checker.specs.Line.{ordinal, headerBatch, trailerBatch}
 use Rattle.checker.specs.declared.Checker.{Checker}
 use Rattle.checker.specs.laws.Details.{inDetail, asked, AllRead}
 use Rattle.checker.specs.laws.Asks.{Body}
 use Rattle.filling.specs.Filling.{bankIndex, batchIndex, numberIndex, batchRecordsIndex, batchSumIndex, fileBatchesIndex, fileRecordsIndex, filledInBatch, filledDetail, filled, bytesOf}
-use Rattle.fields.specs.Values.{Whole}
 use Rattle.writer.specs.laws.Accepted.{Right}
 use Rattle.writer.specs.laws.Reads.{Stands, stands-at, at-bank, at-batch, at-number}
 use Rattle.checker.specs.Totals.{batchCount, centSum, recordCount}
 
 -- a number that stands there already
-with-same : (j n : ℕ) (v : Fields) → getD (v .numbers) j 0 ≡ n → setNth j n v ≡ v
+flag-given : (b : Bool) (n : ℕ) {k : ℕ} → numberIf b n ≡ Is k → b ≡ true
+flag-given true n e = refl
+flag-given false n e = ap isGiven e
+
+with-same : (j n : ℕ) (v : Fields) → nth j v ≡ Is n → setNth j n v ≡ v
 with-same j n v e = go (ltb j mostFields)
   where
-    go : (b : Bool) → record { which = v .which; numbers = cond b (set (v .numbers) j n) (v .numbers); text = v .text } ≡ v
-    go true = let same = ap (set (v .numbers) j) (sym e) ∙ set-getD (v .numbers) j 0 in λ i. record { which = v .which; numbers = same i; text = v .text }
+    flag : getD (v .given) j false ≡ true
+    flag = flag-given (getD (v .given) j false) (getD (v .numbers) j 0) e
+
+    number : getD (v .numbers) j 0 ≡ n
+    number = ap orZero (rw flag at e)
+
+    go : (b : Bool)
+        → record { which = v .which; numbers = cond b (set (v .numbers) j n) (v .numbers); given = cond b (set (v .given) j true) (v .given); text = v .text } ≡ v
+    go true =
+        let same-numbers = ap (set (v .numbers) j) (sym number) ∙ set-getD (v .numbers) j 0 in
+        let same-flags = ap (set (v .given) j) (sym flag) ∙ set-getD (v .given) j false in
+        λ i. record { which = v .which; numbers = same-numbers i; given = same-flags i; text = v .text }
     go false = refl
 
 -- ---- the fields that read what the state counts have it
@@ -48,7 +61,7 @@ module _ (s : Checker) (rec : List ℕ) where
   refilled : {r : Record} {j : ℕ} {f : Field} (k : ℕ) → Stands r j f → heldAs f ≡ asNumber → numberOf (part f rec) ≡ Is k
       → setNth j k (fieldsIn r rec) ≡ fieldsIn r rec
   refilled {r} {j} {f} k at a e =
-      with-same j k (fieldsIn r rec) (number-in r rec j (at .below) (ap heldAs (at .is) ∙ a) (ap (λ (f : Field). numberOf (part f rec)) (at .is) ∙ e))
+      with-same j k (fieldsIn r rec) (number-in r rec j (at .below) (ap heldAs (at .is) ∙ a) ∙ ap (λ (f : Field). numberOf (part f rec)) (at .is) ∙ e)
 
   module _ (r : Record) where
     -- bank and batch, and the number of a detail
@@ -117,7 +130,7 @@ module _ {r : Record} {s : Checker} {rec : List ℕ} (long : length rec ≡ reco
   pub right-back : {expected : List Record} → isOneOf r expected ≡ true → allPrintable rec ≡ true → Right expected s (ofRecord r (fieldsIn r rec))
   unfolding fieldsIn
   right-back e printable =
-      let whole : Whole (fieldsIn r rec) = record { numbers = numbers-length r rec; text = long } in
+      let whole = whole-read r rec long in
       record {
         well = record { whole = whole; printable = ap allPrintable bytes-back ∙ printable; fields = rw bytes-back (kept-accepted _ (b .fields)) };
         is-expected = e;

@@ -11,7 +11,7 @@ use Rattle.layout.specs.Field.{part, none}
 use Rattle.layout.specs.Table.{fieldsOf, recordBytes}
 use Rattle.layout.specs.laws.Tiling.{covered}
 use Rattle.layout.specs.declared.Record.{Record}
-use Rattle.fields.specs.Values.{heldAs, rendered}
+use Rattle.fields.specs.Values.{heldAs, nth, rendered}
 use Rattle.fields.specs.laws.Parts.{holds-at}
 use Rattle.fields.specs.declared.Fields.{Fields}
 use Rattle.checker.specs.Line.{lineFrom}
@@ -27,23 +27,23 @@ use Rattle.writer.specs.laws.Lines.{full-text, bytes-length}
 -- ---- at each place of a record
 
 -- the byte at a place, from the number and the text of the field that holds it
-abbrev pub byteFrom : (r : Record) (ns text : List ℕ) (q : ℕ) → 1 ≤ q → q ≤ recordBytes → ℕ
-byteFrom r ns text q l u =
+abbrev pub byteFrom : (r : Record) (v : Fields) (text : List ℕ) (q : ℕ) → 1 ≤ q → q ≤ recordBytes → ℕ
+byteFrom r v text q l u =
     let j = covered r q l u .index in
     let f = getD (fieldsOf r) j none in
-    place (q - (f .from - 1)) (rendered (heldAs f) (getD ns j 0) (part f text))
+    place (q - (f .from - 1)) (rendered (heldAs f) (nth j v) (part f text))
 
 module _ (s : Checker) (g : Fields) (whole : Whole g) (q : ℕ) (l : 1 ≤ q) (u : q ≤ recordBytes) where
   -- the caller's text, and the numbers as the writer fills them
-  pub record-holds : place q (bytesOf s g) ≡ byteFrom (g .which) (filled (g .which) s g .numbers) (g .text) q l u
+  pub record-holds : place q (bytesOf s g) ≡ byteFrom (g .which) (filled (g .which) s g) (g .text) q l u
   record-holds =
       let v = filled (g .which) s g in
       holds-at (g .which) v (full-text s g whole) q l u
-      ∙ ap (λ (text : List ℕ). byteFrom (g .which) (v .numbers) text q l u) (filled-text (g .which) s g)
+      ∙ ap (λ (text : List ℕ). byteFrom (g .which) v text q l u) (filled-text (g .which) s g)
 
   -- the caller's number, where the writer fills none
   pub given-holds : fillsAt (fillsIn (g .which) s) (covered (g .which) q l u .index) ≡ false
-      → place q (bytesOf s g) ≡ byteFrom (g .which) (g .numbers) (g .text) q l u
+      → place q (bytesOf s g) ≡ byteFrom (g .which) g (g .text) q l u
   given-holds e = record-holds ∙ rw (not-filled (g .which) s g _ e)
 
 -- ---- at each place of a line
@@ -64,7 +64,7 @@ module _ (d : Fields) where
 
   pub line-holds : (s : Checker) {gs : List Fields} → AllWhole gs → (i : ℕ) → i < length gs → (q : ℕ) (l : 1 ≤ q) (u : q ≤ recordBytes)
       → let g = getD gs i d in
-      place q (getD (linesFor s gs) i []) ≡ byteFrom (g .which) (filled (g .which) (behindAll s (take i gs)) g .numbers) (g .text) q l u
+      place q (getD (linesFor s gs) i []) ≡ byteFrom (g .which) (filled (g .which) (behindAll s (take i gs)) g) (g .text) q l u
   line-holds s {gs} a i h q l u =
       let t = behindAll s (take i gs) in
       let g = getD gs i d in

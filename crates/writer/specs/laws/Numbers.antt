@@ -11,7 +11,7 @@ use Rattle.answer.specs.laws.Only.{Only, none, more, past, join, broken-so}
 use Rattle.answer.specs.declared.LineNo.{LineNo}
 use Rattle.answer.specs.declared.Refusal.{Refusal}
 use Rattle.answer.specs.declared.Answer.the-variants.{Refused}
-use Rattle.layout.specs.Field.{Kind, N, Id, T as Text, F, D, Time, K, O, Zeros, Exact, OneOf, Service, Form, Barcode, RecordType, Segment, Field, part, none as no-field}
+use Rattle.layout.specs.Field.{Kind, N, NOrBlank, Id, T as Text, F, D, Time, K, O, Zeros, Exact, OneOf, Service, Form, Barcode, RecordType, Segment, Field, part, none as no-field}
 use Rattle.layout.specs.Table.{fieldsOf}
 use Rattle.layout.specs.Records.{shapeOf, isOneOf}
 use Rattle.layout.specs.Kinds.{Part, means, same, blankIn}
@@ -22,7 +22,8 @@ use Rattle.layout.specs.declared.Direction.the-variants.{Remittance, Return}
 use Rattle.layout.specs.declared.Record.{Record}
 use Rattle.layout.specs.declared.shapes.House.{House}
 use Rattle.layout.specs.declared.shapes.House.the-variants.{NoRules, RulesOfJ}
-use Rattle.fields.specs.Values.{heldAs, rendered}
+use Rattle.fields.specs.Values.{heldAs, nth, rendered}
+use Rattle.digits.specs.declared.spelling.Number.{Number}
 use Rattle.fields.specs.laws.Parts.{holds}
 use Rattle.fields.specs.declared.Fields.{Fields}
 use Rattle.checker.specs.Line.{houseBy, boletoRules}
@@ -57,8 +58,9 @@ blanks Remittance p = one refl
 blanks Return p = none
 
 -- the type's rule alone names another number, 6, and is kept: the type is rendered
-kind : (k : Kind) (p : Part) (n : ℕ) (text : List ℕ) → p .bytes ≡ rendered (means k .held) n text → Writes (means k .rules p)
+kind : (k : Kind) (p : Part) (n : Number) (text : List ℕ) → p .bytes ≡ rendered (means k .held) n text → Writes (means k .rules p)
 kind N p n text e = one refl
+kind NOrBlank p n text e = one refl
 kind Id p n text e = one refl
 kind Text p n text e = one refl
 kind F p n text e = none
@@ -76,7 +78,7 @@ kind (RecordType b) p n text e = past (ap (same (b ∷ [])) e ∙ same-self (b �
 kind (Segment b) p n text e = one refl
 
 -- fields that are rendered from numbers and a text
-fields : (fs : List Field) (d : Direction) (rec : List ℕ) (n : ℕ → ℕ) (text : List ℕ)
+fields : (fs : List Field) (d : Direction) (rec : List ℕ) (n : ℕ → Number) (text : List ℕ)
     → ((j : ℕ) → j < length fs → let f = getD fs j no-field in part f rec ≡ rendered (heldAs f) (n j) (part f text)) → Writes (rulesOf fs d rec)
 unfolding rulesOf
 fields [] d rec n text h = none
@@ -95,7 +97,7 @@ given expected s g whole =
     let v = filled (g .which) s g in
     let held = holds (g .which) v (full-text s g whole) in
     more refl
-    (more refl (join (fields (fieldsOf (g .which)) (s .dir) (bytesOf s g) (λ j. getD (v .numbers) j 0) (v .text) held) (house (shapeOf (g .which) .house) (bytesOf s g))))
+    (more refl (join (fields (fieldsOf (g .which)) (s .dir) (bytesOf s g) (λ j. nth j v) (v .text) held) (house (shapeOf (g .which) .house) (bytesOf s g))))
 
 records : (expected : List (List Record)) (s : Checker) {gs : List Fields} → AllWhole gs → Writes (allGiven expected s gs)
 unfolding allGiven

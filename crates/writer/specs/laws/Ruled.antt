@@ -3,11 +3,11 @@ use mathlib.Core.Path.{_≡_, refl}
 use Prim.Native.Nat.{ℕ}
 use mathlib.Core.List.{List}
 use lib.Dec.{lit≤}
-use lib.ListN.{getD}
 use Rattle.answer.specs.Rules.{firstBroken, AllKept}
 use Rattle.answer.specs.laws.Order.{accepted-kept}
 use Rattle.digits.specs.Digits.{digitByte}
 use Rattle.digits.specs.Numbers.{numberOf}
+use Rattle.digits.specs.declared.spelling.Number.{Number}
 use Rattle.digits.specs.declared.spelling.Number.the-variants.{Is}
 use Rattle.layout.specs.Field.{part}
 use Rattle.layout.specs.Records.{shapeOf, typeOf}
@@ -18,7 +18,7 @@ use Rattle.layout.specs.declared.Record.{Record}
 use Rattle.layout.specs.declared.Record.the-variants.{FileHeader, BatchHeader, BatchTrailer, FileTrailer}
 use Rattle.layout.specs.declared.shapes.LineType.the-variants.{Detail}
 use Rattle.layout.specs.laws.Records.{by-type}
-use Rattle.fields.specs.Values.{ofRecord}
+use Rattle.fields.specs.Values.{ofRecord, nth}
 use Rattle.fields.specs.declared.Fields.{Fields}
 use Rattle.checker.specs.Line.{houseRules, rulesAs}
 use Rattle.checker.specs.declared.Checker.{Checker}
@@ -33,13 +33,13 @@ use Rattle.writer.specs.laws.Reads.{stands-at, at-bank, at-batch, at-num
 
 module _ {s : Checker} {g : Fields} (t : WellMade s g) where
   -- the number that is filled at an index
-  abbrev filledAt : ℕ → ℕ
-  filledAt j = numberFrom (fillsIn (g .which) s) j (getD (g .numbers) j 0)
+  abbrev filledAt : ℕ → Number
+  filledAt j = numberFrom (fillsIn (g .which) s) j (nth j g)
 
-  bank : filledAt (bankIndex (g .which)) ≡ s .bank → numberOf (part bankField (bytesOf s g)) ≡ Is (s .bank)
+  bank : filledAt (bankIndex (g .which)) ≡ Is (s .bank) → numberOf (part bankField (bytesOf s g)) ≡ Is (s .bank)
   bank e = reads-at t (at-bank (g .which)) refl (s .bank) e
 
-  batch : (k : ℕ) → filledAt (batchIndex (g .which)) ≡ k → numberOf (part batchField (bytesOf s g)) ≡ Is k
+  batch : (k : ℕ) → filledAt (batchIndex (g .which)) ≡ Is k → numberOf (part batchField (bytesOf s g)) ≡ Is k
   batch k e = reads-at t (at-batch (g .which)) refl k e
 
   detail-read : typeOf (g .which) ≡ digitByte 3 → fillsIn (g .which) s ≡ detailFills (g .which) s → AllRead (inDetail s) (bytesOf s g)

@@ -31,8 +31,8 @@ pub whole-taken : (r : Record) {v : Fields} → Whole v → Whole (takenAs r v)
 whole-taken r {v} h = go (isOf r v)
   where
     go : (b : Bool) → Whole (ofRecord r (unlessSpoiled b r v))
-    go true = record { numbers = h .numbers; text = h .text }
-    go false = record { numbers = refl; text = refl }
+    go true = record { numbers = h .numbers; given = h .given; text = h .text }
+    go false = record { numbers = refl; given = refl; text = refl }
 
 -- the writer fills none of what refuses spoiled fields
 still-ruined : (r : Record) (s : Checker) (v : Fields) → Ruined v → Ruined (filled r s v)

@@ -6,21 +6,14 @@ use Rattle.fields.proofs.reading.number_in.Tie as tie
 
 returns : tie.Need-returns
 returns c =
-    let at-number = c .before .before .before in
-    let told = as-number (at-number .before .before .before .before .before .args .k) (at-number .before .before .before .fill-of .ensures) (at-number .before .enum-told .given .1) in
-    rw (told, ← (at-number .number-of .ensures), c .before .n .given .1)
+    let told = as-number (c .before .before .before .before .before .args .k) (c .before .before .before .fill-of .ensures) (c .before .enum-told .given .1) in
+    rw (told .held) (c .number-of .ensures)
 
 returns-2 : tie.Need-returns-2
-returns-2 c =
-    let at-number = c .before .before in
-    let told = as-number (at-number .before .before .before .before .before .args .k) (at-number .before .before .before .fill-of .ensures) (at-number .before .enum-told .given .1) in
-    rw (told, ← (at-number .number-of .ensures), c .enum-told2 .given .1)
+returns-2 c = rw (as-text (c .before .before .before .before .args .k) (c .before .before .fill-of .ensures) (c .enum-told2 .given .1))
 
 returns-3 : tie.Need-returns-3
-returns-3 c = rw (as-text (c .before .before .before .before .args .k) (c .before .before .fill-of .ensures) (c .enum-told3 .given .1))
-
-returns-4 : tie.Need-returns-4
-returns-4 c = rw (as-fixed (c .before .before .before .before .args .k) (c .before .before .fill-of .ensures) (c .enum-told4 .given .1) .held)
+returns-3 c = rw (as-fixed (c .before .before .before .before .args .k) (c .before .before .fill-of .ensures) (c .enum-told3 .given .1) .held)
 
 pub number-in-spec : {M : Type 1} → statement M
 number-in-spec =
@@ -31,9 +24,6 @@ number-in-spec =
     (λ c κs. search needs)
     (λ c. search needs)
     (λ c. search needs)
-    (λ c. search needs)
-    (λ c. search needs)
     returns
     returns-2
-    returns-3
-    returns-4)
+    returns-3)

@@ -25,7 +25,7 @@ held c =
 returns-2 : tie.Need-returns-2
 returns-2 c =
     let at-fill = c .before .before in
-    sym (held at-fill ∙ ap isNumber (as-number (at-fill .before .entry-of .result .kind) (at-fill .fill-of .ensures) (c .enum-told .given .1)))
+    sym (held at-fill ∙ ap isNumber (as-number (at-fill .before .entry-of .result .kind) (at-fill .fill-of .ensures) (c .enum-told .given .1) .held))
 
 returns-3 : tie.Need-returns-3
 returns-3 c =

@@ -12,7 +12,7 @@ returns : tie.Need-returns
 returns c =
     let told = c .before .before .before .before in
     let start = told .before .before .before .before .before in
-    rw (as-number (start .args .k) (told .before .before .fill-of .ensures) (told .enum-told .given .1), start .pre .0) (c .before .before .write-number .ensures)
+    rw (as-number (start .args .k) (told .before .before .fill-of .ensures) (told .enum-told .given .1) .held, start .pre .0) (c .before .before .write-given .ensures)
 
 returns-2 : tie.Need-returns-2
 returns-2 c =
@@ -28,7 +28,7 @@ returns-3 c =
     c .before .before .write .ensures
     ∙ h .is _ (start .pre .1)
     ∙ ap (h .content) (sym (start .pre .0))
-    ∙ ap (λ (x : Held). rendered x (start .args .n) (start .args .text .now)) (sym (h .held))
+    ∙ ap (λ (x : Held). rendered x (start .args .m) (start .args .text .now)) (sym (h .held))
 
 pub write-field-spec : {M : Type 1} → statement M
 write-field-spec =

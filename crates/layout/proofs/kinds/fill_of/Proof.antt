@@ -1,17 +1,18 @@
 -- `layout::kinds::fill_of` meets its contract: in each arm the kind's row computes. Assumes nothing.
 use mathlib.Core.Path.{sym}
 use Rattle.layout.specs.laws.Contents.{mark-fill, other-kind, none-below}
+use Rattle.layout.specs.inner.Lent.{kindCount}
 use Rattle.layout.proofs.kinds.fill_of.Statement.{statement}
 use Rattle.layout.proofs.kinds.fill_of.Tie as tie
 
 returns : tie.Need-returns
 returns c = sym (mark-fill _ (c .if1 .taken))
 
-returns-19 : tie.Need-returns-19
-returns-19 c =
+returns-20 : tie.Need-returns-20
+returns-20 c =
     let r = c .match .rest in
     let k = c .before .before .args .k in
-    rw (other-kind k (c .before .if1 .left) (none-below k 17 (r .0 .0 .0 .0 .0 .0 .0 .0 .0 .0 .0 .0 .0 .0 .0 .0 .1, (r .0 .0 .0 .0 .0 .0 .0 .0 .0 .0 .0 .0 .0 .0 .0 .1, (r .0 .0 .0 .0 .0 .0 .0 .0 .0 .0 .0 .0 .0 .0 .1, (r .0 .0 .0 .0 .0 .0 .0 .0 .0 .0 .0 .0 .1, (r .0 .0 .0 .0 .0 .0 .0 .0 .0 .0 .1, (r .0 .0 .0 .0 .0 .0 .0 .1, (r .0 .0 .0 .0 .0 .0 .1, (r .0 .0 .0 .0 .0 .0 .0 .0 .0 .1, (r .0 .0 .0 .0 .0 .0 .0 .0 .0 .0 .0 .0 .0 .1, (r .0 .0 .0 .0 .0 .0 .0 .0 .0 .0 .0 .1, (r .0 .0 .0 .0 .0 .0 .0 .0 .1, (r .0 .0 .0 .0 .0 .1, (r .0 .0 .0 .0 .1, (r .0 .0 .0 .1, (r .0 .0 .1, (r .0 .1, (r .1, tt)))))))))))))))))))
+    rw (other-kind k (c .before .if1 .left) (none-below k kindCount (r .0 .0 .0 .0 .0 .0 .0 .0 .0 .0 .0 .0 .0 .0 .0 .0 .0 .1, (r .0 .0 .0 .0 .0 .0 .0 .0 .0 .0 .0 .0 .0 .0 .0 .0 .1, (r .0 .0 .0 .0 .0 .0 .0 .0 .0 .0 .0 .0 .0 .0 .0 .1, (r .0 .0 .0 .0 .0 .0 .0 .0 .0 .0 .0 .0 .0 .1, (r .0 .0 .0 .0 .0 .0 .0 .0 .0 .0 .0 .1, (r .0 .0 .0 .0 .0 .0 .0 .0 .1, (r .0 .0 .0 .0 .0 .0 .0 .1, (r .0 .0 .0 .0 .0 .0 .0 .0 .0 .0 .1, (r .0 .0 .0 .0 .0 .0 .0 .0 .0 .0 .0 .0 .0 .0 .1, (r .0 .0 .0 .0 .0 .0 .0 .0 .0 .0 .0 .0 .1, (r .0 .0 .0 .0 .0 .0 .0 .0 .0 .1, (r .0 .0 .0 .0 .0 .0 .1, (r .0 .0 .0 .0 .0 .1, (r .0 .0 .0 .0 .1, (r .0 .0 .0 .1, (r .0 .0 .1, (r .0 .1, (r .1, tt))))))))))))))))))))
 
 pub fill-of-spec : {M : Type 1} → statement M
 fill-of-spec =
@@ -35,4 +36,5 @@ fill-of-spec =
     (λ c. rw (c .match .keys15))
     (λ c. rw (c .match .keys16))
     (λ c. rw (c .match .keys17))
-    returns-19)
+    (λ c. rw (c .match .keys18))
+    returns-20)

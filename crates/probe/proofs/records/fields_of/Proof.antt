@@ -8,11 +8,11 @@ use Rattle.probe.proofs.records.fields_of.Statement.{statement}
 use Rattle.probe.proofs.records.fields_of.Tie as tie
 
 abbrev Inv-loop : tie.InvT-loop
-Inv-loop given which many numbers-end numbers₀ i₀ numbers i =
-    (i ≤ many) × (many ≤ mostNumbers) × (numbers-end ≡ many * numberDigits) × (length given ≡ numbers-end + 240)
+Inv-loop said which many numbers-end fields₀ i₀ fields i =
+    (i ≤ many) × (many ≤ mostNumbers) × (numbers-end ≡ many * numberDigits) × (length said ≡ numbers-end + 240)
 
 abbrev μ-loop : tie.MeasureT-loop
-μ-loop given which many numbers-end numbers₀ i₀ numbers i = many - i
+μ-loop said which many numbers-end fields₀ i₀ fields i = many - i
 
 pub fields-of-spec : {M : Type 1} → statement M
 fields-of-spec =
@@ -27,12 +27,6 @@ fields-of-spec =
     (λ c. search needs)
     (λ c. search needs)
     (λ c. search needs)
-    (λ c. search needs)
-    (λ c. search needs)
-    (λ c. search needs)
-    (λ c κs. search needs)
-    (λ c. search needs)
-    (λ c. search needs)
     (λ c κs. search needs)
     (λ c. search needs)
     (λ c. search needs)
@@ -40,8 +34,15 @@ fields-of-spec =
     (λ c. search needs)
     (λ c. search needs)
     (λ c. search needs)
-    (λ c. search needs)
-    (λ c. search needs)
+    (λ c κs. search needs)
     (λ c. search needs)
     (λ c κs. search needs)
+    (λ c. search needs)
+    (λ c κs. search needs)
+    (λ c κs. search needs)
+    (λ c. search needs)
+    (λ c κs. search needs)
+    (λ c. search needs)
+    (λ c. search needs)
+    (λ c. search needs)
     (λ c. search needs))

@@ -3,11 +3,12 @@ use mathlib.Core.Path.{refl, _∙_}
 use mathlib.Core.List.{[], _∷_}
 use borrow.Author.Needs.{needs}
 use Rattle.answer.specs.laws.Order.{done}
+use Rattle.layout.specs.inner.Lent.{kindCount}
 use Rattle.layout.specs.Kinds.{run, text, blank}
 use Rattle.walk.specs.inner.Steps.{for-digits, tested}
 use Rattle.layout.specs.laws.Contents.{none-below, other-kind, run-is, exact-is}
 use Rattle.layout.specs.declared.fixed.Content.the-variants.{LetterC, Code09, Code52}
-use Rattle.walk.proofs.Rows.{of-kind, at-key, for-blank, for-fixed, for-mark}
+use Rattle.walk.proofs.Rows.{of-kind, at-key, for-blank, for-number-or-blank, for-fixed, for-mark}
 use Rattle.walk.proofs.looks.look_at.Statement.{statement}
 use Rattle.walk.proofs.looks.look_at.Tie as tie
 
@@ -63,10 +64,13 @@ returns-19 : tie.Need-returns-19
 returns-19 c = at-key (c .before .match .keys17) (tested (c .barcode .ensures))
 
 returns-20 : tie.Need-returns-20
-returns-20 c =
+returns-20 c = for-number-or-blank (c .before .match .keys18) (c .number-or-blank .ensures)
+
+returns-21 : tie.Need-returns-21
+returns-21 c =
     let r = c .match .rest in
     let k = c .before .before .before .before .args .k in
-    of-kind (other-kind k (c .before .if1 .left) (none-below k 17 (r .0 .0 .0 .0 .0 .0 .0 .0 .0 .0 .0 .0 .0 .0 .0 .0 .1, (r .0 .0 .0 .0 .0 .0 .0 .0 .0 .0 .0 .0 .0 .1, (r .0 .0 .0 .0 .0 .0 .0 .0 .0 .0 .0 .0 .1, (r .0 .0 .0 .0 .1, (r .0 .0 .1, (r .1, (r .0 .0 .0 .0 .0 .0 .0 .0 .0 .0 .0 .0 .0 .0 .1, (r .0 .1, (r .0 .0 .0 .0 .0 .1, (r .0 .0 .0 .1, (r .0 .0 .0 .0 .0 .0 .0 .0 .0 .0 .0 .0 .0 .0 .0 .1, (r .0 .0 .0 .0 .0 .0 .0 .0 .0 .0 .1, (r .0 .0 .0 .0 .0 .0 .0 .0 .0 .0 .0 .1, (r .0 .0 .0 .0 .0 .0 .0 .0 .0 .1, (r .0 .0 .0 .0 .0 .0 .0 .0 .1, (r .0 .0 .0 .0 .0 .0 .0 .1, (r .0 .0 .0 .0 .0 .0 .1, tt))))))))))))))))))) (tested done)
+    of-kind (other-kind k (c .before .if1 .left) (none-below k kindCount (r .0 .0 .0 .0 .0 .0 .0 .0 .0 .0 .0 .0 .0 .0 .0 .0 .0 .1, (r .0 .0 .0 .0 .0 .0 .0 .0 .0 .0 .0 .0 .0 .0 .1, (r .0 .0 .0 .0 .0 .0 .0 .0 .0 .0 .0 .0 .0 .1, (r .0 .0 .0 .0 .0 .1, (r .0 .0 .0 .1, (r .0 .1, (r .0 .0 .0 .0 .0 .0 .0 .0 .0 .0 .0 .0 .0 .0 .0 .1, (r .0 .0 .1, (r .0 .0 .0 .0 .0 .0 .1, (r .0 .0 .0 .0 .1, (r .0 .0 .0 .0 .0 .0 .0 .0 .0 .0 .0 .0 .0 .0 .0 .0 .1, (r .0 .0 .0 .0 .0 .0 .0 .0 .0 .0 .0 .1, (r .0 .0 .0 .0 .0 .0 .0 .0 .0 .0 .0 .0 .1, (r .0 .0 .0 .0 .0 .0 .0 .0 .0 .0 .1, (r .0 .0 .0 .0 .0 .0 .0 .0 .0 .1, (r .0 .0 .0 .0 .0 .0 .0 .0 .1, (r .0 .0 .0 .0 .0 .0 .0 .1, (r .1, tt)))))))))))))))))))) (tested done)
 
 pub look-at-spec : {M : Type 1} → statement M
 look-at-spec =
@@ -98,6 +102,7 @@ look-at-spec =
     (λ c κs. search needs)
     (λ c κs. search needs)
     (λ c κs. search needs)
+    (λ c κs. search needs)
     (λ c. at-key (c .match .keys1) (for-digits refl))
     (λ c. at-key (c .match .keys2) (for-digits refl))
     returns-4
@@ -116,4 +121,5 @@ look-at-spec =
     returns-17
     returns-18
     returns-19
-    returns-20)
+    returns-20
+    returns-21)

@@ -14,7 +14,7 @@ returns : tie.Need-returns
 returns c =
     let start = c .before .before .before .before .before in
     let m = start .args .made in
-    let full : length (m .fields .text) ≡ 240 = simp length-map at (start .good .0 .1 .1 .1 .0 .1 .1 .1 .1 .0 .1 .0 .1) in
+    let full : length (m .fields .text) ≡ 240 = simp length-map at (start .good .0 .1 .1 .1 .0 .1 .1 .1 .1 .1 .0 .1 .0 .1) in
     line-end (recordOf (m .fields .which) (m .fields)) (now (start .args .part)) _ (put-right m full (start .pre .0) (omega (arith, start .pre .1)) (c .before .before .put .ensures)) (c .before .before .put .kept .1 .0) (start .pre .1)
 
 pub put-line-spec : {M : Type 1} → statement M

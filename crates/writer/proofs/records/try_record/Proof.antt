@@ -16,7 +16,11 @@ use Rattle.writer.proofs.records.try_record.Tie as tie
 whole : (c : tie.Start) → Whole (c .args .v)
 whole c =
     let held = c .good .1 .1 .0 in
-    record { numbers = simp length-map at (held .1 .1 .1 .0 .1 .0 .1); text = simp length-map at (held .1 .1 .1 .1 .0 .1 .0 .1) }
+    record {
+      numbers = simp length-map at (held .1 .1 .1 .0 .1 .0 .1);
+      given = simp length-map at (held .1 .1 .1 .1 .0 .1 .0 .1);
+      text = simp length-map at (held .1 .1 .1 .1 .1 .0 .1 .0 .1);
+    }
 
 -- a sound state is filled in
 filled-in : (c : tie.After-fill) → let a = c .before .args in c .fill .result ≡ filled (a .v .which) (a .m) (a .v)

@@ -1,7 +1,7 @@
--- `fields::Fields::cents_at` meets its contract. Assumes nothing.
+-- `writer::payments::cents_at` meets its contract. Assumes nothing.
 use borrow.Author.Needs.{needs}
-use Rattle.fields.proofs.Fields.cents_at.Statement.{statement}
-use Rattle.fields.proofs.Fields.cents_at.Tie as tie
+use Rattle.writer.proofs.payments.cents_at.Statement.{statement}
+use Rattle.writer.proofs.payments.cents_at.Tie as tie
 
 returns : tie.Need-returns
 returns c = rw (← (c .before .before .before .number-at .ensures), c .before .n .given .1)
