@@ -93,10 +93,7 @@ directionField = field 143 143 oneTwo
 abbrev pub movementField : Field
 movementField = field 15 15 zeroNine
 
--- a credit: its date; and when the bank paid it and how much, a number each, not given until then
-abbrev pub creditDate : Field
-creditDate = field 94 101 D
-
+-- when the bank paid a credit and how much, a number each, not given until then
 abbrev pub paidDate : Field
 paidDate = field 155 162 NOrBlank
 
@@ -145,7 +142,7 @@ own BatchHeader =
     ++ field 103 142 T ∷ field 143 172 T ∷ field 173 177 F ∷ field 178 192 T ∷ field 193 212 T ∷ field 213 230 F ∷ field 231 240 O ∷ []
 own SegmentA =
     movementField ∷ field 16 17 N ∷ field 18 20 N ∷ field 21 23 N ∷ field 24 28 N ∷ field 29 29 F ∷ field 30 41 N ∷ field 42 42 F
-    ∷ field 43 43 F ∷ field 44 73 T ∷ field 74 93 T ∷ creditDate ∷ field 102 104 F ∷ field 105 119 N ∷ creditAmount ∷ field 135 154 F
+    ∷ field 43 43 F ∷ field 44 73 T ∷ field 74 93 T ∷ field 94 101 D ∷ field 102 104 F ∷ field 105 119 N ∷ creditAmount ∷ field 135 154 F
     ∷ paidDate ∷ paidAmount ∷ field 178 230 F ∷ field 231 240 O ∷ []
 own SegmentB = field 15 17 F ∷ field 18 18 zeroOneTwo ∷ field 19 32 Id ∷ field 33 240 F ∷ []
 own SegmentJ =

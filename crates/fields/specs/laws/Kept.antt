@@ -33,6 +33,7 @@ use Rattle.layout.specs.declared.Record.the-variants.{BatchHeader}
 use Rattle.layout.specs.Records.{code}
 use Rattle.layout.specs.laws.Records.{each, same-code}
 use Rattle.fields.specs.Values.{heldAs, isGiven}
+use Rattle.fields.specs.laws.Absent.{no-digits-none}
 use Rattle.fields.specs.laws.Wide.{wide, carrier, wideNumber, widePlace}
 
 -- ---- bytes that give a number
@@ -84,10 +85,6 @@ same-places g f bs t =
 data Spelled (bs : List ℕ) : Presence → Type 0 where
   some : {p : Presence} → Some (numberOf bs) → Spelled bs p
   blanks : numberOf bs ≡ Not → run blank (length bs) ≡ bs → Spelled bs perhaps
-
-no-digits-none : (bs : List ℕ) → allDigits bs ≡ false → numberOf bs ≡ Not
-unfolding numberOf
-no-digits-none bs e = rw e
 
 number-or-blank-spelled : (bs : List ℕ) → length bs ≤ mostDigits → numberOrBlank bs ≡ true → Spelled bs perhaps
 number-or-blank-spelled bs h e = go (allDigits bs) refl e

@@ -1,4 +1,4 @@
--- The masks of a record: at each place the lowest and the highest byte of a record that is looked at no further. Assumes nothing.
+-- The masks of a record: a lowest and a highest byte for each place. Assumes nothing.
 use mathlib.Core.Path.{_≡_}
 use mathlib.Core.Bool.{Bool, true, false, cond, _&&_}
 use mathlib.Core.List.{List, [], _∷_, _++_}
