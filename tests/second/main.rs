@@ -1,5 +1,5 @@
-//! The second program: written from document 01 and requests 1, 2, 3 and 13 of
-//! document 02, without sight of the payment desk's code, it asks the desk's
+//! The second program: written from document 01 and requests 1, 2, 3, 7 and
+//! 13 of document 02, without sight of the payment desk's code, it asks the desk's
 //! probe many questions and compares every reply with its own answer. It also
 //! changes files at their guarded places, feeds large files to the desk's
 //! program, and makes plain files. Everywhere here document 01 is meant with

@@ -48,6 +48,8 @@ pub const FILE_SUM: u8 = 23;
 
 pub const TOO_LONG: u8 = 25;
 
+pub const REGISTRATION: u8 = 26;
+
 pub const STRING_LENGTH: u8 = 40;
 
 pub const STRING_DIGIT: u8 = 41;

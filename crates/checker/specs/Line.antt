@@ -10,17 +10,19 @@ use Rattle.digits.specs.Digits.{allDigits, place}
 use Rattle.digits.specs.Numbers.{numberOf, value}
 use Rattle.calendar.specs.Calendar.{numberFits, dateOf}
 use Rattle.calendar.specs.Due.{factorFits}
+use Rattle.ids.specs.Ids.{idFits}
 use Rattle.boleto.specs.Strings.{factorDigits, centsDigits}
 use Rattle.boleto.specs.Rules.{generalFits}
 use Rattle.layout.specs.Field.{Field, part}
 use Rattle.layout.specs.Records.{shapeOf, boletoAmount}
-use Rattle.layout.specs.Table.{bankField, batchField, typePlace, numberField, segmentPlace, segmentFields, fieldsOf, recordBytes, barcodeField, dueField, nominalField, discountField, fineField, batchRecords, batchSum, fileBatches, fileRecords}
+use Rattle.layout.specs.Table.{bankField, batchField, typePlace, numberField, segmentPlace, segmentFields, fieldsOf, recordBytes, holderId, payerId, payeeId, guarantorId, barcodeField, dueField, nominalField, discountField, fineField, batchRecords, batchSum, fileBatches, fileRecords}
+use Rattle.layout.specs.Kinds.{registrationAt}
 use Rattle.layout.specs.Record.{rulesOf, byteRule}
 use Rattle.layout.specs.declared.Record.{Record}
 use Rattle.layout.specs.declared.shapes.LineType.{LineType}
 use Rattle.layout.specs.declared.shapes.LineType.the-variants.{FileFirst, BatchFirst, Detail, BatchLast, FileLast}
 use Rattle.layout.specs.declared.shapes.House.{House}
-use Rattle.layout.specs.declared.shapes.House.the-variants.{NoRules, RulesOfJ}
+use Rattle.layout.specs.declared.shapes.House.the-variants.{NoRules, RulesOfJ, OneId, ThreeIds}
 use Rattle.checker.specs.Order.{follows, readAs, ended}
 use Rattle.checker.specs.Totals.{batchCount, recordCount, paymentCount, centSum, paymentsOf}
 use Rattle.checker.specs.declared.order.Reading.{Reading}
@@ -68,6 +70,12 @@ behind p r = within (suc p) recordBytes (fieldsOf r)
 abbrev pub between : ℕ → ℕ → Record → List Field
 between p q r = within (suc p) q (fieldsOf r)
 
+-- ---- house rules of registration numbers
+
+-- a right number of its type
+abbrev pub idRule : Field → List ℕ → Rule
+idRule f rec = rule 26 (f .from) (idFits (registrationAt (f .from) rec) (part f rec))
+
 -- ---- house rules of J
 
 abbrev pub cents : Field → List ℕ → ℕ
@@ -105,10 +113,12 @@ boletoRules rec =
     ∷ rule 19 (boletoAmount .from) (amountFits rec)
     ∷ []
 
--- what the house asks of a record behind its fields
+-- what the house asks of a record behind its fields: the leftmost number first
 abbrev pub houseBy : House → List ℕ → List Rule
 houseBy NoRules rec = []
 houseBy RulesOfJ rec = boletoRules rec
+houseBy OneId rec = idRule holderId rec ∷ []
+houseBy ThreeIds rec = idRule payerId rec ∷ idRule payeeId rec ∷ idRule guarantorId rec ∷ []
 
 abbrev pub houseRules : Record → List ℕ → List Rule
 houseRules r rec = houseBy (shapeOf r .house) rec

@@ -2,6 +2,7 @@
 pub mod Sums
 pub mod Bounds
 pub mod Listed
+pub mod Ids
 pub mod Payments
 pub mod Edges
 pub mod Meaning

@@ -4,7 +4,6 @@ use answer::Answer;
 use answer::Cents;
 use answer::numbers;
 use calendar::Date;
-use layout::House;
 use layout::places;
 ghost use mathlib.Core.Path.{_≡_};
 ghost use Prim.Native.Nat.{_<_, _^_};
@@ -12,7 +11,7 @@ ghost use lib.ListN.{length};
 ghost use Rattle.answer.specs.Rules.{firstBroken};
 ghost use Rattle.layout.specs.Table.{recordBytes, nominalField};
 ghost use Rattle.checker.specs.Totals.{amountDigits};
-ghost use Rattle.checker.specs.Line.{cents, dueFits, centsFit, amountFits, boletoRules, houseBy};
+ghost use Rattle.checker.specs.Line.{cents, dueFits, centsFit, amountFits, boletoRules};
 
 // A barcode that leaves the cents to the record.
 const NOT_STATED: Cents = Cents(0);
@@ -49,7 +48,8 @@ fn amount_fits(rec: &[u8], nominal: Cents) -> bool
     paid.equal(nominal.plus(amount(rec, places::FINE)))
 }
 
-fn check_boleto(rec: &[u8]) -> Answer
+// All four, in the paper's order.
+pub(crate) fn check_boleto(rec: &[u8]) -> Answer
     requires { ⌜ length (now rec) ≡ recordBytes ⌝ }
     ensures { λ r. ⌜ r ≡ firstBroken (boletoRules (now (rec .entry))) ⌝ }
 {
@@ -61,15 +61,4 @@ fn check_boleto(rec: &[u8]) -> Answer
     let paid = amount_fits(rec, nominal);
     let amount = Answer::test(numbers::AMOUNT, places::BOLETO_AMOUNT, paid);
     check.and_then(due.and_then(cents.and_then(amount)))
-}
-
-// What the house asks of a record behind its fields.
-pub(crate) fn check_house(house: House, rec: &[u8]) -> Answer
-    requires { ⌜ length (now rec) ≡ recordBytes ⌝ }
-    ensures { λ r. ⌜ r ≡ firstBroken (houseBy house (now (rec .entry))) ⌝ }
-{
-    match house {
-        House::NoRules => Answer::Accepted,
-        House::RulesOfJ => check_boleto(rec),
-    }
 }

@@ -1,7 +1,7 @@
 // The rules of a line, in the paper's order.
 use super::Checker;
 use super::LINE_BYTES;
-use super::boletos::check_house;
+use super::house::check_house;
 use super::limits::HEADER_BATCH;
 use super::limits::MOST_BATCHES;
 use super::limits::MOST_PAYMENTS;

@@ -4,13 +4,13 @@ use mathlib.Core.List.{List, [], _∷_, _++_}
 use Prim.Native.Nat.{ℕ, zero, suc, _*_, _/_, _%_, _^_}
 use lib.Dec.{leb, ltb}
 use lib.ListN.{length, replicate}
-use Rattle.digits.specs.Digits.{digitByte, allDigits, weighed}
+use Rattle.digits.specs.Digits.{digitOf, digitByte, allDigits, weighed}
 use Rattle.digits.specs.declared.spelling.Number.{Number}
 use Rattle.digits.specs.declared.spelling.Number.the-variants.{Is, Not}
 
 -- a digit with k digits to its right counts 10 to the k times
 abbrev pub number : List ℕ → ℕ
-number = weighed (λ k d. d * 10 ^ k)
+number = weighed digitOf (λ k d. d * 10 ^ k)
 
 -- as many digits as always fit 64 bits
 abbrev pub mostDigits : ℕ

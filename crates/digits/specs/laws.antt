@@ -5,3 +5,4 @@ pub mod Sums
 pub mod Numerals
 pub mod Moduli
 pub mod Seals
+pub mod Twice

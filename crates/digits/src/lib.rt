@@ -1,9 +1,10 @@
-// Digit strings: the numbers they spell, and their check digits.
+// Digit strings, and strings of digits and capital letters: the numbers they spell, and their check digits.
 mod sealing;
 mod spelling;
 
 pub use sealing::Modulus;
 pub use sealing::check_digit;
+pub use sealing::ends_right_twice;
 pub use sealing::is_sealed;
 pub use spelling::Number;
 pub use spelling::number_of;
@@ -11,7 +12,8 @@ pub use spelling::value;
 pub use spelling::write_number;
 ghost use mathlib.Core.Path.{_≡_};
 ghost use Prim.Native.Nat.{_≤_};
-ghost use Rattle.digits.specs.Digits.{digit?, digitOf, leading, allDigits};
+ghost use Rattle.digits.specs.Digits.{digit?, letter?, digitOf, characterOf, leading, allDigits, allCharacters};
+ghost use Rattle.digits.specs.inner.Steps.{mostValue};
 
 fn is_digit(b: u8) -> bool
     ensures { λ r. ⌜ r ≡ digit? b ⌝ }
@@ -24,6 +26,23 @@ fn digit_of(b: u8) -> u64
     ensures { λ r. ⌜ (r ≡ digitOf b) × (r ≤ 9) ⌝ }
 {
     if is_digit(b) {
+        b as u64 - b'0' as u64
+    } else {
+        0
+    }
+}
+
+fn is_letter(b: u8) -> bool
+    ensures { λ r. ⌜ r ≡ letter? b ⌝ }
+{
+    b'A' <= b && b <= b'Z'
+}
+
+// What a digit or a capital letter counts: another byte counts 0.
+fn character_of(b: u8) -> u64
+    ensures { λ r. ⌜ (r ≡ characterOf b) × (r ≤ mostValue) ⌝ }
+{
+    if is_digit(b) | is_letter(b) {
         b as u64 - b'0' as u64
     } else {
         0
@@ -53,6 +72,22 @@ pub fn all_digits(s: &[u8]) -> bool
     while i < s.len() {
         let b = s[i];
         all = all & (b'0' <= b) & (b <= b'9');
+        i += 1;
+    }
+    all
+}
+
+// The same of digits and capital letters.
+pub fn all_characters(s: &[u8]) -> bool
+    ensures { λ r. ⌜ r ≡ allCharacters (now (s .entry)) ⌝ }
+{
+    let mut all = true;
+    let mut i = 0;
+    while i < s.len() {
+        let b = s[i];
+        let digit = (b'0' <= b) & (b <= b'9');
+        let letter = (b'A' <= b) & (b <= b'Z');
+        all = all & (digit | letter);
         i += 1;
     }
     all

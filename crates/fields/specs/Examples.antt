@@ -9,13 +9,14 @@ use Rattle.answer.specs.Rules.{accepts, firstBroken}
 use Rattle.answer.specs.Output.{over}
 use Rattle.answer.specs.Sums.{largest}
 use Rattle.answer.specs.declared.Answer.{Answer}
-use Rattle.digits.specs.Digits.{places, leading, weighed}
+use Rattle.digits.specs.Digits.{bytes, places, leading, weighed}
 use Rattle.digits.specs.Numbers.{numberOf, numeral, lastDigits}
 use Rattle.digits.specs.declared.spelling.Number.{Number}
 use Rattle.digits.specs.declared.spelling.Number.the-variants.{Is, Not}
 use Rattle.calendar.specs.Calendar.{exists, dateFits, timeFits}
+use Rattle.ids.specs.Ids.{charactersFit}
 use Rattle.layout.specs.Kinds.{same}
-use Rattle.layout.specs.Examples.{bytes, refusedWith}
+use Rattle.layout.specs.Examples.{refusedWith}
 use Rattle.layout.specs.Pairs.{batchOf}
 use Rattle.layout.specs.Names.{before, indexOf}
 use Rattle.layout.specs.Record.{rulesOf, clean, recordRules}
@@ -125,5 +126,5 @@ every [] = true
 every (x ∷ xs) = holds Remittance x && (holds Return x && every xs)
 
 pub table-holds : T (every table)
-unfolding table holds fieldsOf before indexOf firstBroken leading numberOf numeral lastDigits exists dateFits timeFits same batchOf rulesOf clean recordRules joined recordOf fieldsIn weighed over
+unfolding table holds fieldsOf before indexOf firstBroken leading charactersFit numberOf numeral lastDigits exists dateFits timeFits same batchOf rulesOf clean recordRules joined recordOf fieldsIn weighed over
 table-holds = tt

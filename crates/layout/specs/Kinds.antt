@@ -5,8 +5,10 @@ use Prim.Native.Nat.{ℕ, _+_, _-_}
 use lib.Dec.{eqb}
 use lib.ListN.{length, getD, replicate}
 use Rattle.answer.specs.Rules.{Rule, rule}
-use Rattle.digits.specs.Digits.{allDigits, digitByte}
+use Rattle.digits.specs.Digits.{allDigits, digitByte, place}
 use Rattle.calendar.specs.Calendar.{dateFits, timeFits}
+use Rattle.ids.specs.Ids.{registrationOf, charactersFit}
+use Rattle.ids.specs.declared.Registration.{Registration}
 use Rattle.boleto.specs.Strings.{currencyPlace}
 use Rattle.boleto.specs.Rules.{currencyFits}
 use Rattle.layout.specs.Pairs.{among, batchOf, known}
@@ -107,6 +109,14 @@ abbrev pub pairRule : Part → List Rule
 pairRule p =
     rule 14 (serviceField .from) (known (batchOf (p .direction) (part serviceField (p .whole)) (part formField (p .whole)))) ∷ []
 
+-- what a registration number is, by its type, in the place right before its first
+abbrev pub registrationAt : ℕ → List ℕ → Registration
+registrationAt from rec = registrationOf (place (from - 1) rec)
+
+-- the characters that it may have
+abbrev pub idCharacters : Part → List Rule
+idCharacters p = rule 8 (p .place) (charactersFit (registrationAt (p .place) (p .whole)) (p .bytes)) ∷ []
+
 -- its digits, then its currency at the currency's place in the record
 abbrev pub barcodeRules : Part → List Rule
 barcodeRules p = wrong 8 allDigits p ++ rule 14 (p .place + (currencyPlace - 1)) (currencyFits (p .bytes)) ∷ []
@@ -115,7 +125,7 @@ barcodeRules p = wrong 8 allDigits p ++ rule 14 (p .place + (currencyPlace - 1))
 abbrev pub means : Kind → Meaning
 means N = row asNumber (wrong 8 allDigits)
 means NOrBlank = row asNumberIfGiven (wrong 8 numberOrBlank)
-means Id = row asBytes (wrong 8 allDigits)
+means Id = row asBytes idCharacters
 means T = row asBytes (wrong 13 textFits)
 means F = row asBytes (λ p. [])
 means D = row asNumber (wrong 15 dateFits)

@@ -14,7 +14,7 @@ use Rattle.layout.specs.declared.shapes.Phase.the-variants.{Headed, Open
 use Rattle.layout.specs.declared.shapes.Amount.{Amount}
 use Rattle.layout.specs.declared.shapes.Amount.the-variants.{NoAmount, AmountOfA, AmountOfJ}
 use Rattle.layout.specs.declared.shapes.House.{House}
-use Rattle.layout.specs.declared.shapes.House.the-variants.{NoRules, RulesOfJ}
+use Rattle.layout.specs.declared.shapes.House.the-variants.{NoRules, RulesOfJ, OneId, ThreeIds}
 use Rattle.layout.specs.declared.shapes.Shape.{Shape}
 
 -- a row: the record's number in the table; the type of its line; the letter of a detail; the phase behind it; its amount; what the house asks of it
@@ -30,12 +30,12 @@ abbrev pub letterZ : ℕ
 letterZ = 90
 
 abbrev pub shapeOf : Record → Shape
-shapeOf FileHeader = shape 0 FileFirst noLetter Headed NoAmount NoRules
-shapeOf BatchHeader = shape 1 BatchFirst noLetter Opened NoAmount NoRules
+shapeOf FileHeader = shape 0 FileFirst noLetter Headed NoAmount OneId
+shapeOf BatchHeader = shape 1 BatchFirst noLetter Opened NoAmount OneId
 shapeOf SegmentA = shape 2 Detail 65 (Within 1) AmountOfA NoRules
-shapeOf SegmentB = shape 3 Detail 66 Paid NoAmount NoRules
+shapeOf SegmentB = shape 3 Detail 66 Paid NoAmount OneId
 shapeOf SegmentJ = shape 4 Detail 74 (Within 1) AmountOfJ RulesOfJ
-shapeOf SegmentJ52 = shape 5 Detail 74 Paid NoAmount NoRules
+shapeOf SegmentJ52 = shape 5 Detail 74 Paid NoAmount ThreeIds
 shapeOf SegmentZ = shape 6 Detail letterZ BehindZ NoAmount NoRules
 shapeOf BatchTrailer = shape 7 BatchLast noLetter Closed NoAmount NoRules
 shapeOf FileTrailer = shape 8 FileLast noLetter Ended NoAmount NoRules

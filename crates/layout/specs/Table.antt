@@ -1,7 +1,7 @@
 -- The layout table: the fields of each record, left to right, with their first and last places. Assumes nothing.
 use mathlib.Core.Bool.{Bool, cond, _&&_}
 use mathlib.Core.List.{List, [], _∷_, _++_}
-use Prim.Native.Nat.{ℕ, suc}
+use Prim.Native.Nat.{ℕ, suc, _-_}
 use lib.Dec.{leb, eqb}
 use Rattle.digits.specs.Digits.{digitByte}
 use Rattle.layout.specs.Field.{Kind, N, NOrBlank, Id, T, F, D, Time, K, O, Zeros, Exact, OneOf, Service, Form, Barcode, RecordType, Segment, Field, field}
@@ -72,10 +72,27 @@ exact09 = Exact (digitByte 0 ∷ digitByte 9 ∷ [])
 abbrev pub exact52 : Kind
 exact52 = Exact (digitByte 5 ∷ digitByte 2 ∷ [])
 
+-- the type of a registration number, in the place right before it
+abbrev pub idType : Field → Field
+idType f = field (f .from - 1) (f .from - 1) zeroOneTwo
+
+-- registration numbers: in both headers that of the company, in B that of the payee; in J52 those of payer, payee and guarantor
+abbrev pub holderId : Field
+holderId = field 19 32 Id
+
+abbrev pub payerId : Field
+payerId = field 21 35 Id
+
+abbrev pub payeeId : Field
+payeeId = field 77 91 Id
+
+abbrev pub guarantorId : Field
+guarantorId = field 133 147 Id
+
 -- both headers
 abbrev pub company : List Field
 company =
-    field 18 18 zeroOneTwo ∷ field 19 32 Id ∷ field 33 52 T ∷ field 53 57 N ∷ field 58 58 F ∷ field 59 70 N ∷ field 71 71 F ∷ field 72 72 F
+    idType holderId ∷ holderId ∷ field 33 52 T ∷ field 53 57 N ∷ field 58 58 F ∷ field 59 70 N ∷ field 71 71 F ∷ field 72 72 F
     ∷ field 73 102 T ∷ []
 
 -- service and form
@@ -144,14 +161,14 @@ own SegmentA =
     movementField ∷ field 16 17 N ∷ field 18 20 N ∷ field 21 23 N ∷ field 24 28 N ∷ field 29 29 F ∷ field 30 41 N ∷ field 42 42 F
     ∷ field 43 43 F ∷ field 44 73 T ∷ field 74 93 T ∷ field 94 101 D ∷ field 102 104 F ∷ field 105 119 N ∷ creditAmount ∷ field 135 154 F
     ∷ paidDate ∷ paidAmount ∷ field 178 230 F ∷ field 231 240 O ∷ []
-own SegmentB = field 15 17 F ∷ field 18 18 zeroOneTwo ∷ field 19 32 Id ∷ field 33 240 F ∷ []
+own SegmentB = field 15 17 F ∷ idType holderId ∷ holderId ∷ field 33 240 F ∷ []
 own SegmentJ =
     movementField ∷ field 16 17 N ∷ barcodeField ∷ field 62 91 T ∷ dueField ∷ nominalField ∷ discountField ∷ fineField
     ∷ field 145 152 D ∷ boletoAmount ∷ field 168 182 Zeros ∷ field 183 202 T ∷ field 203 222 F ∷ field 223 224 exact09
     ∷ field 225 230 K ∷ field 231 240 O ∷ []
 own SegmentJ52 =
-    field 15 15 K ∷ field 16 17 N ∷ field 18 19 exact52 ∷ field 20 20 zeroOneTwo ∷ field 21 35 Id ∷ field 36 75 T ∷ field 76 76 zeroOneTwo
-    ∷ field 77 91 Id ∷ field 92 131 T ∷ field 132 132 zeroOneTwo ∷ field 133 147 Id ∷ field 148 187 T ∷ field 188 240 K ∷ []
+    field 15 15 K ∷ field 16 17 N ∷ field 18 19 exact52 ∷ idType payerId ∷ payerId ∷ field 36 75 T ∷ idType payeeId ∷ payeeId
+    ∷ field 92 131 T ∷ idType guarantorId ∷ guarantorId ∷ field 148 187 T ∷ field 188 240 K ∷ []
 own SegmentZ = field 15 240 F ∷ []
 own BatchTrailer =
     field 9 17 K ∷ batchRecords ∷ batchSum ∷ field 42 59 N ∷ field 60 65 N ∷ field 66 230 K ∷ field 231 240 O ∷ []

@@ -7,3 +7,4 @@ pub mod Contents
 pub mod Absent
 pub mod Columns
 pub mod Indexes
+pub mod Ids

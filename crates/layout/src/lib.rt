@@ -5,6 +5,7 @@ pub mod kinds;
 pub mod names;
 mod pairs;
 pub mod places;
+mod registrations;
 mod shapes;
 mod table;
 
@@ -17,6 +18,7 @@ pub use kinds::fill_of;
 pub use pairs::Batch;
 pub use pairs::batch_of;
 pub use pairs::batch_with;
+pub use registrations::registration_at;
 pub use shapes::Amount;
 pub use shapes::House;
 pub use shapes::LineType;

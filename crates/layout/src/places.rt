@@ -34,6 +34,23 @@ pub const FORM_TO: usize = 13;
 
 pub const DIRECTION: usize = 143;
 
+// Registration numbers: both headers and B; and J52.
+pub const HOLDER_ID_FROM: usize = 19;
+
+pub const HOLDER_ID_TO: usize = 32;
+
+pub const PAYER_ID_FROM: usize = 21;
+
+pub const PAYER_ID_TO: usize = 35;
+
+pub const PAYEE_ID_FROM: usize = 77;
+
+pub const PAYEE_ID_TO: usize = 91;
+
+pub const GUARANTOR_ID_FROM: usize = 133;
+
+pub const GUARANTOR_ID_TO: usize = 147;
+
 // A.
 pub const CREDIT_AMOUNT: usize = 120;
 

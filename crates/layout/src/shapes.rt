@@ -5,7 +5,7 @@ ghost use lib.Dec.{eqb};
 ghost use Rattle.layout.specs.Records.{code, isDetail, shape, noLetter, shapeOf};
 ghost use Rattle.layout.specs.declared.shapes.LineType.the-variants.{Detail};
 ghost use Rattle.layout.specs.declared.shapes.Amount.the-variants.{NoAmount};
-ghost use Rattle.layout.specs.declared.shapes.House.the-variants.{NoRules};
+ghost use Rattle.layout.specs.declared.shapes.House.the-variants.{NoRules, OneId};
 
 // The type of a line, by what it is to the file: 0, 1, 3, 5 and 9.
 pub enum LineType {
@@ -55,6 +55,8 @@ pub enum Amount {
 pub enum House {
     NoRules,
     RulesOfJ,
+    OneId,
+    ThreeIds,
 }
 
 // A record's number in the table, the type of its line, the letter of a detail (0 in other lines),
@@ -70,7 +72,20 @@ pub struct Shape {
 
 const NO_LETTER: u8 = 0;
 
-fn header_or_trailer(code: usize, line: LineType, after: Phase) -> Shape
+fn header(code: usize, line: LineType, after: Phase) -> Shape
+    ensures { λ r. ⌜ r ≡ shape code line noLetter after NoAmount OneId ⌝ }
+{
+    Shape {
+        code,
+        line,
+        letter: NO_LETTER,
+        after,
+        amount: Amount::NoAmount,
+        house: House::OneId,
+    }
+}
+
+fn trailer(code: usize, line: LineType, after: Phase) -> Shape
     ensures { λ r. ⌜ r ≡ shape code line noLetter after NoAmount NoRules ⌝ }
 {
     Shape {
@@ -101,10 +116,10 @@ pub fn shape_of(which: Record) -> Shape
     ensures { λ r. ⌜ r ≡ shapeOf which ⌝ }
 {
     match which {
-        Record::FileHeader => header_or_trailer(0, LineType::FileFirst, Phase::Headed),
-        Record::BatchHeader => header_or_trailer(1, LineType::BatchFirst, Phase::Opened),
+        Record::FileHeader => header(0, LineType::FileFirst, Phase::Headed),
+        Record::BatchHeader => header(1, LineType::BatchFirst, Phase::Opened),
         Record::SegmentA => detail(2, b'A', Phase::Within(1), Amount::AmountOfA, House::NoRules),
-        Record::SegmentB => detail(3, b'B', Phase::Paid, Amount::NoAmount, House::NoRules),
+        Record::SegmentB => detail(3, b'B', Phase::Paid, Amount::NoAmount, House::OneId),
         Record::SegmentJ => detail(
             4,
             b'J',
@@ -112,10 +127,10 @@ pub fn shape_of(which: Record) -> Shape
             Amount::AmountOfJ,
             House::RulesOfJ,
         ),
-        Record::SegmentJ52 => detail(5, b'J', Phase::Paid, Amount::NoAmount, House::NoRules),
+        Record::SegmentJ52 => detail(5, b'J', Phase::Paid, Amount::NoAmount, House::ThreeIds),
         Record::SegmentZ => detail(6, b'Z', Phase::BehindZ, Amount::NoAmount, House::NoRules),
-        Record::BatchTrailer => header_or_trailer(7, LineType::BatchLast, Phase::Closed),
-        Record::FileTrailer => header_or_trailer(8, LineType::FileLast, Phase::Ended),
+        Record::BatchTrailer => trailer(7, LineType::BatchLast, Phase::Closed),
+        Record::FileTrailer => trailer(8, LineType::FileLast, Phase::Ended),
     }
 }
 

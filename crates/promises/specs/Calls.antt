@@ -16,7 +16,7 @@ use Rattle.boleto.specs.Strings.{barcodeDigits, lineDigits, currencyPlace, barc
 use Rattle.boleto.specs.Rules.{barcodeRules, digitLineRules}
 use Rattle.layout.specs.Pairs.{among}
 use Rattle.layout.specs.Field.{Field}
-use Rattle.layout.specs.Table.{recordBytes, typePlace, segmentPlace, bankField, batchField, numberField, batchRecords, batchSum, fileRecords, all}
+use Rattle.layout.specs.Table.{recordBytes, typePlace, segmentPlace, bankField, batchField, numberField, batchRecords, batchSum, fileRecords, all, holderId, payerId, payeeId, guarantorId}
 use Rattle.layout.specs.Records.{boletoAmount}
 use Rattle.layout.specs.Record.{recordRules}
 use Rattle.layout.specs.declared.Direction.{Direction}
@@ -91,6 +91,7 @@ table =
     ∷ row 22 (at (batchSum .from ∷ []))
     ∷ row 23 (at (batchSum .from ∷ 0 ∷ []))
     ∷ row 25 nowhere
+    ∷ row 26 (at (holderId .from ∷ payerId .from ∷ payeeId .from ∷ guarantorId .from ∷ []))
     ∷ row 40 nowhere ∷ row 41 (upTo lineDigits)
     ∷ row 42 (at (10 ∷ 21 ∷ 32 ∷ []))
     ∷ row 43 (at (currencyPlace ∷ [])) ∷ row 44 (at (lineCheck ∷ barcodeCheck ∷ []))

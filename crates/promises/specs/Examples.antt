@@ -1,13 +1,12 @@
 -- The table of proved examples: thirteen, in one statement. Assumes nothing.
 use Rattle.layout.specs.Kinds.{same}
-use Rattle.layout.specs.Examples.{bytes}
 use mathlib.Core.Bool.{Bool, true, _&&_}
 use mathlib.Core.List.{List, [], _∷_}
 use Prim.Native.Nat.{ℕ}
 use Prim.Native.String.{String}
 use lib.Dec.{T, eqb}
 use Rattle.answer.specs.Rules.{accepts, firstBroken}
-use Rattle.digits.specs.Digits.{leading, weighed}
+use Rattle.digits.specs.Digits.{bytes, leading, weighed}
 use Rattle.digits.specs.Checks.{counts, lift, checkDigit}
 use Rattle.digits.specs.declared.sealing.Modulus.the-variants.{Ten, Eleven}
 use Rattle.calendar.specs.Calendar.{date, exists}

@@ -20,6 +20,7 @@ pub mod Listed
 pub mod Change
 pub mod EveryLine
 pub mod AcceptedFiles
+pub mod IdFiles
 pub mod Ways
 pub mod SecondBatch
 pub mod ShutOut
@@ -29,3 +30,4 @@ pub mod WrongConverters
 pub mod Ahead
 pub mod Rewritten
 pub mod WrittenFile
+pub mod IdCalls

@@ -16,7 +16,7 @@ ghost use lib.ListN.{length, getD};
 ghost use Rattle.answer.specs.Rules.{firstBroken};
 ghost use Rattle.layout.specs.inner.Lent.{kindOf, mayBe};
 ghost use Rattle.layout.specs.Table.{recordBytes};
-ghost use Rattle.layout.specs.Kinds.{aPart, oneOf, pairRule, barcodeRules, blank};
+ghost use Rattle.layout.specs.Kinds.{aPart, oneOf, pairRule, idCharacters, barcodeRules, blank};
 ghost use Rattle.walk.specs.inner.Steps.{Looked, markLook, textLook, numberOrBlankLook};
 ghost use Rattle.layout.specs.declared.Direction.the-variants.{Remittance};
 ghost use Rattle.walk.specs.declared.looks.Look.the-variants.{Fixed};
@@ -57,6 +57,19 @@ fn barcode(part: &[u8], place: usize) -> Answer
         place + (boleto::CURRENCY_PLACE - 1),
         currency,
     ))
+}
+
+// The characters of a registration number, by the type that stands before it in the record.
+fn id(part: &[u8], rec: &[u8], place: usize) -> Answer
+    requires { ⌜ place ≤ recordBytes ⌝ }
+    ensures { λ r. ⌜ r ≡ firstBroken (idCharacters (aPart place (now (part .entry)) (now (rec .entry)) Remittance)) ⌝ }
+{
+    let registration = layout::registration_at(rec, place);
+    Answer::test(
+        numbers::NON_DIGIT,
+        place,
+        ids::characters_fit(registration, part),
+    )
 }
 
 // Service and form, which stand in the record.
@@ -146,7 +159,7 @@ pub(crate) fn look_at(k: u8, dir: Direction, part: &[u8], rec: &[u8], place: usi
     }
     match k {
         kinds::N => Look::Digits,
-        kinds::ID => Look::Digits,
+        kinds::ID => Look::Tested(id(part, rec, place)),
         kinds::T => text(part),
         kinds::D => Look::Tested(Answer::test(numbers::DATE, place, calendar::date_fits(part))),
         kinds::TIME => Look::Tested(Answer::test(numbers::DATE, place, calendar::time_fits(part))),

@@ -1,7 +1,7 @@
 // The masks of the records: a lowest and a highest byte for each place. Where a record's bytes lie
 // between them, every field is right whose rule is one for each byte alone, and so is a number that
-// may be not given, whose mask is that of digits: a record with blanks for it is looked at field by
-// field.
+// may be not given or a registration number, whose mask is that of digits: a record with blanks or
+// letters for it is looked at field by field.
 use layout::Direction;
 use layout::RECORD_BYTES;
 use layout::Record;

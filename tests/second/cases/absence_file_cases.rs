@@ -1,7 +1,7 @@
 //! The requests about files in which numbers are not given: as a whole, line by
 //! line and in parts.
 
-use crate::cases::file_cases::FileCases;
+use crate::cases::file_cases::{FileCases, Replaced};
 use crate::damage::absence_flaws::{always_given, leave_blank, mixes};
 use crate::making::absences::{all_pairs, put_pair, Pair};
 use crate::making::cuttings::cut_at;
@@ -18,27 +18,6 @@ const CUT_CONTENTS: [[&[u8]; 2]; 4] = [
     [b"       1", b"               "],
     [b"        ", b"12             "],
 ];
-
-/// A good file, and what is given in the place of one of its lines.
-pub struct Replaced {
-    file: MadeFile,
-    at: usize,
-    line: Vec<u8>,
-}
-
-impl Replaced {
-    fn bytes(mut self) -> Vec<u8> {
-        self.file.lines[self.at].bytes = self.line;
-        self.file.bytes()
-    }
-
-    /// The line in vain, and then all lines as they should be.
-    fn calls(self) -> Vec<Vec<u8>> {
-        let mut calls = self.file.calls();
-        calls.insert(self.at, self.line);
-        calls
-    }
-}
 
 impl FileCases<'_> {
     pub fn ask_absences(&mut self) {

@@ -26,6 +26,27 @@ const REPEATS_PER_BOLETO_FLAWS: usize = 4;
 const MOST_BATCHES: usize = 2;
 const MOST_PAYMENTS: usize = 2;
 
+/// A good file, and what is given in the place of one of its lines.
+pub struct Replaced {
+    pub file: MadeFile,
+    pub at: usize,
+    pub line: Vec<u8>,
+}
+
+impl Replaced {
+    pub fn bytes(mut self) -> Vec<u8> {
+        self.file.lines[self.at].bytes = self.line;
+        self.file.bytes()
+    }
+
+    /// The line in vain, and then all lines as they should be.
+    pub fn calls(self) -> Vec<Vec<u8>> {
+        let mut calls = self.file.calls();
+        calls.insert(self.at, self.line);
+        calls
+    }
+}
+
 /// What requests about files are made with, whole files and single lines alike.
 pub struct FileCases<'a> {
     pub random: &'a mut Random,

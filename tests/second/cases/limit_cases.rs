@@ -45,6 +45,7 @@ fn case(name: &'static str, demanded: &'static str, write: Write) -> Case {
 
 pub fn all() -> Vec<Case> {
     let mut cases = small_files();
+    cases.extend(registrations());
     cases.extend(many_batches());
     cases.extend(many_payments());
     cases.extend(behind_many_payments());
@@ -82,6 +83,21 @@ fn small_files() -> Vec<Case> {
             plain_files::write_one_payment(out)?;
             out.write_all(b"\n")
         }),
+    ]
+}
+
+fn registrations() -> Vec<Case> {
+    vec![
+        case(
+            "a CNPJ with letters",
+            "OK 2 12 3 343490 0 0",
+            plain_files::write_lettered,
+        ),
+        case(
+            "swapped check digits",
+            "NO 26 6 19",
+            plain_files::write_wrong_check_digit,
+        ),
     ]
 }
 

@@ -4,9 +4,11 @@ use crate::asking::writer_script::Step;
 use crate::cases::script_cases::ScriptCases;
 use crate::cases::script_room_cases::MORE_THAN_ALL;
 use crate::damage::call_flaws;
+use crate::damage::registration_flaws;
 use crate::making::good_calls::{steps, Frame};
 use crate::making::random::Random;
 use crate::paper::file_state::{BatchKind, BATCH_KINDS};
+use crate::paper::layout_table as table;
 use crate::paper::lines::LINE_BYTES;
 use crate::paper::record_kinds::{
     all_subjects, Direction, RecordKind, Subject, DIRECTIONS, RECORD_KINDS,
@@ -15,12 +17,15 @@ use crate::paper::writer_calls::{CallKind, WriterCall};
 
 const REPEATS_IN_ONE_RECORD: usize = 2;
 const COMBINATIONS_OF_BOLETO_FLAWS: usize = 16;
+const WRONG_NUMBER_ONCE_IN: usize = 3;
 
 /// What can be wrong with a record.
 #[derive(Clone, Copy, PartialEq, Eq)]
 enum Blemish {
     /// Only a J has it.
     Boleto,
+    /// A wrong CPF or CNPJ.
+    Registration,
     /// Only a payment has it.
     Kind,
     Field,
@@ -29,16 +34,21 @@ enum Blemish {
 
 /// In an order in which they can be put so that none undoes another, as far as
 /// a record can have both.
-const PAIRS: [(Blemish, Blemish); 6] = [
+const PAIRS: [(Blemish, Blemish); 10] = [
     (Blemish::Boleto, Blemish::Field),
     (Blemish::Boleto, Blemish::Byte),
+    (Blemish::Registration, Blemish::Registration),
+    (Blemish::Registration, Blemish::Field),
+    (Blemish::Registration, Blemish::Byte),
+    (Blemish::Kind, Blemish::Registration),
     (Blemish::Kind, Blemish::Field),
     (Blemish::Kind, Blemish::Byte),
     (Blemish::Field, Blemish::Field),
     (Blemish::Field, Blemish::Byte),
 ];
-const BLEMISHES: [Blemish; 4] = [
+const BLEMISHES: [Blemish; 5] = [
     Blemish::Boleto,
+    Blemish::Registration,
     Blemish::Kind,
     Blemish::Field,
     Blemish::Byte,
@@ -135,6 +145,10 @@ impl ScriptCases<'_> {
                 *frame.record_mut() = self.detail_or_other(subject.direction, kind);
             }
             Blemish::Boleto | Blemish::Kind => {}
+            Blemish::Registration => {
+                let values = &mut frame.record_mut().values;
+                registration_flaws::spoil_number(self.random, subject.kind, values);
+            }
             Blemish::Field => {
                 let fields = call_flaws::fields_to_spoil(subject);
                 if !fields.is_empty() {
@@ -156,7 +170,7 @@ impl ScriptCases<'_> {
         self.put(frame, flaw);
     }
 
-    /// The same for a call that has no frame.
+    /// The same for a call that has no frame, or a wrong CPF or CNPJ.
     pub fn put_flaw_into(&mut self, call: &mut WriterCall) {
         let kinds = call.kinds();
         let at = self.random.below(kinds.len());
@@ -168,7 +182,10 @@ fn spoil_record(random: &mut Random, kind: RecordKind, call: &mut WriterCall, at
     let direction = Direction::Remittance;
     let fields = call_flaws::fields_to_spoil(Subject { kind, direction });
     let values = &mut call.records[at].values;
-    if fields.is_empty() || random.coin() {
+    let has_number = !table::registrations(kind).is_empty();
+    if has_number && random.below(WRONG_NUMBER_ONCE_IN) == 0 {
+        registration_flaws::spoil_number(random, kind, values);
+    } else if fields.is_empty() || random.coin() {
         call_flaws::spoil_byte(random, kind, values);
     } else {
         let field = random.pick(&fields);

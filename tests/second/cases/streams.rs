@@ -9,7 +9,7 @@ use crate::asking::probe::{Request, HEADER_BYTES, OP_AT};
 use crate::cases::file_cases::{self, FileCases};
 use crate::cases::script_cases::ScriptCases;
 use crate::cases::{absence_cases, digit_cases, due_cases, large_file_cases, line_call_cases};
-use crate::cases::{record_cases, record_write_cases, withdrawn_cases};
+use crate::cases::{record_cases, record_write_cases, registration_cases, withdrawn_cases};
 use crate::damage::malformed_requests::{changed, malformed_requests, with_bait};
 use crate::making::good_barcodes;
 use crate::making::good_requests::good_requests;
@@ -24,6 +24,8 @@ const MADE_ONCE_SEED: u64 = 8;
 const WITHDRAWN_SEED: u64 = 14;
 const ABSENCE_SEED: u64 = 15;
 const ABSENCE_FILE_SEED: u64 = 16;
+const REGISTRATION_SEED: u64 = 18;
+const REGISTRATION_FILE_SEED: u64 = 19;
 const PAIRS_OF_FLAWS_SEED: u64 = 10;
 const ROUNDS_OF_PAIRS: usize = 2;
 /// The first of the streams about files has this seed, the others the next ones.
@@ -84,6 +86,7 @@ pub fn writer_streams() -> impl Iterator<Item = Stream> {
             cases.ask_long();
             cases.ask_withdrawn();
             cases.ask_absences();
+            cases.ask_registrations();
         }
         cases.ask_all();
         let mut requests = cases.requests;
@@ -111,6 +114,7 @@ pub fn part_streams() -> impl Iterator<Item = Stream> {
         if index == 0 {
             cases.ask_cuts_made_once();
             cases.ask_absences_in_parts();
+            cases.ask_registrations_in_parts();
         }
         cases.ask_files_in_parts();
         let mut requests = cases.requests;
@@ -143,8 +147,8 @@ fn stream_of_pairs_of_flaws() -> Stream {
 }
 
 /// Large files, every due date around a turn, every mix of live and withdrawn
-/// payments, every way in which numbers are not given, and files that chance
-/// would hardly make.
+/// payments, every way in which numbers are not given, CPF and CNPJ of every
+/// sort, and files that chance would hardly make.
 fn stream_of_files_made_once() -> Stream {
     let mut random = Random::with_seed(MADE_ONCE_SEED);
     let mut requests = large_file_cases::requests(&mut random);
@@ -158,6 +162,10 @@ fn stream_of_files_made_once() -> Stream {
     let mut cases = FileCases::new(&mut absences);
     cases.ask_absences();
     requests.extend(cases.requests);
+    let mut registrations = Random::with_seed(REGISTRATION_FILE_SEED);
+    let mut cases = FileCases::new(&mut registrations);
+    cases.ask_registrations();
+    requests.extend(cases.requests);
     Stream::shuffled(requests, &mut random)
 }
 
@@ -169,6 +177,9 @@ fn stream_of_strings(barcodes: &[Vec<u8>]) -> Stream {
     requests.extend(record_write_cases::requests(&mut random));
     requests.extend(absence_cases::requests(&mut Random::with_seed(
         ABSENCE_SEED,
+    )));
+    requests.extend(registration_cases::requests(&mut Random::with_seed(
+        REGISTRATION_SEED,
     )));
     requests.extend(malformed_requests());
     Stream::shuffled(requests, &mut Random::with_seed(ORDER_SEED))

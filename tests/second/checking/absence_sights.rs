@@ -2,11 +2,12 @@
 //! one record of a run.
 
 use crate::asking::values::NoNumber;
+use crate::checking::judged_records::kind_of;
 use crate::damage::absence_flaws::always_given;
 use crate::paper::layout_table::{self as table, Entry};
 use crate::paper::numbers::NON_DIGIT;
 use crate::paper::payments::payments_of;
-use crate::paper::places::{Part, NOT_THERE_YET, SEGMENT, TYPE};
+use crate::paper::places::{Part, NOT_THERE_YET};
 use crate::paper::record_kinds::RecordKind;
 use crate::paper::record_rules::Refusal;
 
@@ -160,26 +161,10 @@ fn two_halves(content: &[u8]) -> Option<(Mix, usize)> {
         })
 }
 
-/// What a line of a file is read as behind these lines, as far as its type and
-/// segment say it.
+/// What a line of a file is read as behind these lines.
 pub fn kind_behind(before: &[&[u8]], line: &[u8]) -> Option<RecordKind> {
-    match (TYPE.of(line), SEGMENT.of(line)) {
-        (b"0", _) => Some(RecordKind::FileHeader),
-        (b"1", _) => Some(RecordKind::BatchHeader),
-        (b"5", _) => Some(RecordKind::BatchTrailer),
-        (b"9", _) => Some(RecordKind::FileTrailer),
-        (b"3", b"A") => Some(RecordKind::A),
-        (b"3", b"B") => Some(RecordKind::B),
-        (b"3", b"Z") => Some(RecordKind::Z),
-        (b"3", b"J") => {
-            let payments = payments_of(before.iter().copied());
-            let begun = payments.last().is_some_and(|last| last.records.len() == 1);
-            Some(if begun {
-                RecordKind::J52
-            } else {
-                RecordKind::J
-            })
-        }
-        _ => None,
-    }
+    kind_of(line, || {
+        let payments = payments_of(before.iter().copied());
+        payments.last().is_some_and(|last| last.records.len() == 1)
+    })
 }

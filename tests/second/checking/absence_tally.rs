@@ -8,6 +8,8 @@ use crate::asking::values::{sent_number, DIGITS_OF_A_VALUE};
 use crate::asking::writer_script::{Misfit, Step};
 use crate::checking::absence_demands::{demanded, letter, READING, WRITING};
 use crate::checking::absence_sights::{kind_behind, RefusedRecord, Sight};
+use crate::checking::judged_records::{calls_of, refusal_in, verdict_of_all};
+use crate::checking::part_claims::bytes_before_the_end;
 use crate::checking::script_sights::code;
 use crate::making::absences::{self, all_pairs, pair_given, pair_in, Holding, Pair};
 use crate::paper::answers::{Answer, AnswerLine, Verdict};
@@ -75,19 +77,17 @@ impl AbsenceTally {
 
     fn count_read(&mut self, subject: Subject, request: &Request, answer: &Answer) {
         let (op, direction) = (Op::ReadRecord, char::from(subject.direction.code()));
-        match answer.lines[0].verdict {
-            Verdict::Accepted if subject.kind == RecordKind::A => {
+        match refusal_in(answer.lines[0].verdict) {
+            Ok(None) if subject.kind == RecordKind::A => {
                 self.meet(op, direction, pair_in(&request.payload));
             }
-            Verdict::Refused { number, place, .. } if place > 0 => {
-                self.see_refused(RefusedRecord {
-                    op: letter(op),
-                    direction,
-                    kind: subject.kind,
-                    bytes: &request.payload,
-                    refusal: (number, place),
-                });
-            }
+            Ok(Some(refusal)) => self.see_refused(RefusedRecord {
+                op: letter(op),
+                direction,
+                kind: subject.kind,
+                bytes: &request.payload,
+                refusal,
+            }),
             _ => {}
         }
     }
@@ -161,16 +161,10 @@ impl AbsenceTally {
 
     /// Behind a refusal or an end no line is accepted any more.
     fn count_parts(&mut self, calls: &[PartCall], answer: &Answer) {
-        let parts = calls.iter().map_while(|call| match call {
-            PartCall::Part(bytes) => Some(*bytes),
-            PartCall::End => None,
-        });
-        let bytes = parts.collect::<Vec<&[u8]>>().concat();
+        let bytes = bytes_before_the_end(calls);
         let lines: Vec<&[u8]> = bytes.chunks(LINE_BYTES).collect();
         let accepted = answer.accepted_lines.unwrap_or(0) as usize;
-        let mut verdicts = answer.lines.iter().map(|line| line.verdict);
-        let refusal = verdicts.find(|verdict| *verdict != Verdict::Accepted);
-        let verdict = refusal.unwrap_or(Verdict::Accepted);
+        let verdict = verdict_of_all(answer);
         self.count_cut(Op::CheckParts, lines.split_at(accepted), verdict);
     }
 
@@ -185,8 +179,8 @@ impl AbsenceTally {
 
     /// A line that came behind these.
     fn count_refused(&mut self, op: Op, before: &[&[u8]], line: &[u8], verdict: Verdict) {
-        let refusal = match verdict {
-            Verdict::Refused { number, place, .. } if place > 0 => (number, place),
+        let refusal = match refusal_in(verdict) {
+            Ok(Some(refusal)) => refusal,
             _ => return,
         };
         // A place is named in a whole line only.
@@ -203,13 +197,7 @@ impl AbsenceTally {
 
     fn count_script(&mut self, script: &Result<Vec<Step>, Misfit>, answer: &Answer) {
         match script {
-            Ok(script) => {
-                let calls = script.iter().filter_map(|step| match step {
-                    Step::Call(call) => Some(call),
-                    Step::Lend(_) | Step::Overwrite(_) => None,
-                });
-                self.count_calls(calls.zip(&answer.lines));
-            }
+            Ok(script) => self.count_calls(calls_of(script).zip(&answer.lines)),
             Err(Misfit::NoNumber {
                 kind,
                 index,

@@ -68,7 +68,7 @@ impl SeenCall<'_> {
                     place,
                 }]
             }
-            Row::Boleto(at, _) => {
+            Row::Registration(at, _) | Row::Boleto(at, _) => {
                 let kind = kind_of(at);
                 vec![Sight::Fault {
                     number,
@@ -187,6 +187,7 @@ fn class(row: Row) -> Option<Class> {
         Row::Bytes(_) => Some(Class::Byte),
         Row::Segment(_) => Some(Class::Kind),
         Row::Field(..) => Some(Class::Field),
+        Row::Registration(..) => Some(Class::Registration),
         Row::Boleto(..) => Some(Class::Boleto),
         Row::Room => Some(Class::Room),
         Row::RecordLimit | Row::Total => None,

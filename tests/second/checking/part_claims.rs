@@ -35,7 +35,7 @@ pub fn answer_by_the_whole_file(calls: &[PartCall]) -> Answer {
 }
 
 /// Or all bytes, if no end is declared.
-fn bytes_before_the_end(calls: &[PartCall]) -> Vec<u8> {
+pub fn bytes_before_the_end(calls: &[PartCall]) -> Vec<u8> {
     let parts = calls.iter().map_while(|call| match call {
         PartCall::Part(bytes) => Some(*bytes),
         PartCall::End => None,

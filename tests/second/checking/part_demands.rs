@@ -6,6 +6,7 @@ use crate::checking::movement_tally::MIXES;
 use crate::checking::part_sights::{Amount, Coming, Sight, Sort};
 use crate::making::cuttings::FIVE_LINES_AND_A_HALF;
 use crate::paper::lines::LINE_BYTES;
+use crate::paper::numbers::WRONG_REGISTRATION;
 use crate::paper::numbers::{NO_END, OUT_OF_TURN, TOTAL_TOO_LARGE, WRONG_BYTE, WRONG_LENGTH};
 use crate::paper::record_kinds::DIRECTIONS;
 
@@ -70,13 +71,13 @@ fn accepted_files() -> Vec<Sight> {
 /// Every number that a file can give, and every call behind it.
 fn refusals() -> Vec<Sight> {
     let mut sights = vec![Sight::UnfinishedWithWrongByte];
-    for number in WRONG_BYTE..=TOTAL_TOO_LARGE {
+    for number in (WRONG_BYTE..=TOTAL_TOO_LARGE).chain([WRONG_REGISTRATION]) {
         sights.extend(COMINGS.map(|coming| Sight::RefusedLine { number, coming }));
     }
     for amount in AMOUNTS {
         sights.extend([false, true].map(|later| Sight::BytesBehind { later, amount }));
     }
-    for number in (WRONG_LENGTH..=TOTAL_TOO_LARGE).chain([OUT_OF_TURN]) {
+    for number in (WRONG_LENGTH..=TOTAL_TOO_LARGE).chain([WRONG_REGISTRATION, OUT_OF_TURN]) {
         sights.extend(SORTS.map(|call| Sight::CallBehind { number, call }));
     }
     sights.extend([WRONG_LENGTH, NO_END].map(|number| Sight::RepairedInVain { number }));

@@ -7,12 +7,13 @@ use crate::paper::guarded_places::WEAK_CHECK;
 use crate::paper::layout_table::{self as table, Entry};
 use crate::paper::places::{part, Part, BARCODE_CENTS, BARCODE_CHECK, DISCOUNT, FACTOR, FINE};
 use crate::paper::record_kinds::{Direction, RecordKind};
-use crate::paper::record_rules::all_blank;
+use crate::paper::record_rules::{all_blank, all_digits};
+use crate::paper::registration::{type_before, Registration};
 use crate::paper::totals::Movement;
 
 const FORM: Part = part(12, 13);
 
-const DEMANDED: [&str; 33] = [
+const DEMANDED: [&str; 41] = [
     "form 01",
     "form 10",
     "form 41",
@@ -46,6 +47,14 @@ const DEMANDED: [&str; 33] = [
     "filled number in a remittance",
     "blank number in a return",
     "filled number in a return",
+    "number of type 0 in a remittance",
+    "number of type 0 in a return",
+    "CPF in a remittance",
+    "CPF in a return",
+    "CNPJ of digits in a remittance",
+    "CNPJ of digits in a return",
+    "CNPJ with letters in a remittance",
+    "CNPJ with letters in a return",
 ];
 
 /// The names of what no sample shows.
@@ -110,6 +119,17 @@ fn sights_of_fields(line: &MadeLine, direction: &str) -> Vec<String> {
         }
         if field.entry == Entry::OptionalNumber {
             sights.push(format!("{blank} number in a {direction}"));
+        }
+        if field.entry == Entry::Identifier {
+            let registration = Registration::of_type(type_before(field, &line.bytes));
+            let lettered = !all_digits(field.of(&line.bytes));
+            let number = match registration {
+                Some(Registration::Cpf) => "CPF",
+                Some(Registration::Cnpj) if lettered => "CNPJ with letters",
+                Some(Registration::Cnpj) => "CNPJ of digits",
+                None => "number of type 0",
+            };
+            sights.push(format!("{number} in a {direction}"));
         }
     }
     sights

@@ -10,13 +10,14 @@ use crate::checking::script_sights::{code, wrong_kind, Class, Distance, Sight, M
 use crate::making::good_calls::{given_numbers, given_texts, takes_number};
 use crate::paper::file_state::{BatchKind, BATCH_KINDS};
 use crate::paper::layout_table::{self as table, Entry};
+use crate::paper::numbers::WRONG_REGISTRATION;
 use crate::paper::places::{AMOUNT_OF_J, BARCODE_CENTS, BARCODE_CHECK, FACTOR};
 use crate::paper::record_kinds::{Direction, RecordKind, DIRECTIONS, RECORD_KINDS};
 use crate::paper::totals::MOVEMENTS;
 use crate::paper::writer_calls::{CallKind, CALL_KINDS};
 
 const MOST_LINES: usize = 7;
-const NUMBERS_BEFORE_GOING_ON: [u32; 13] = [4, 8, 11, 12, 13, 14, 15, 16, 17, 18, 19, 20, 50];
+const NUMBERS_BEFORE_GOING_ON: [u32; 14] = [4, 8, 11, 12, 13, 14, 15, 16, 17, 18, 19, 20, 26, 50];
 
 /// All that has to be seen in a run.
 pub fn demanded() -> Vec<Sight> {
@@ -30,6 +31,7 @@ pub fn demanded() -> Vec<Sight> {
         }));
     }
     sights.extend(boleto_faults());
+    sights.extend(wrong_registrations());
     sights.extend(calls_out_of_turn());
     sights.extend(wrong_kinds());
     sights.extend(two_faults());
@@ -101,6 +103,20 @@ fn boleto_faults() -> Vec<Sight> {
     sights.to_vec()
 }
 
+/// Every CPF or CNPJ that a caller can give.
+fn wrong_registrations() -> Vec<Sight> {
+    let mut sights = Vec::new();
+    for kind in RECORD_KINDS {
+        let fields = table::registrations(kind).into_iter();
+        sights.extend(fields.map(|field| Sight::Fault {
+            number: WRONG_REGISTRATION,
+            kind: code(kind),
+            place: field.first,
+        }));
+    }
+    sights
+}
+
 fn ignored_in(kind: RecordKind) -> Vec<Sight> {
     let mut sights = Vec::new();
     for (index, field) in table::fields(kind).into_iter().enumerate() {
@@ -164,34 +180,39 @@ fn is_right(direction: Direction, batch: BatchKind, position: usize, kind: Recor
     }
 }
 
+/// Two faults, of which one at least is about the call as a whole.
+const OF_A_CALL: [(Class, Class); 14] = [
+    (Class::Turn, Class::Limit),
+    (Class::Turn, Class::Byte),
+    (Class::Turn, Class::Field),
+    (Class::Turn, Class::Registration),
+    (Class::Turn, Class::Room),
+    (Class::Limit, Class::Byte),
+    (Class::Limit, Class::Field),
+    (Class::Limit, Class::Registration),
+    (Class::Limit, Class::Room),
+    (Class::Byte, Class::Room),
+    (Class::Kind, Class::Room),
+    (Class::Field, Class::Room),
+    (Class::Registration, Class::Room),
+    (Class::Boleto, Class::Room),
+];
+/// Two faults of one record.
+const OF_A_RECORD: [(Class, Class); 11] = [
+    (Class::Byte, Class::Kind),
+    (Class::Byte, Class::Field),
+    (Class::Byte, Class::Registration),
+    (Class::Byte, Class::Boleto),
+    (Class::Kind, Class::Field),
+    (Class::Kind, Class::Registration),
+    (Class::Field, Class::Field),
+    (Class::Field, Class::Registration),
+    (Class::Registration, Class::Registration),
+    (Class::Field, Class::Boleto),
+    (Class::Boleto, Class::Boleto),
+];
+
 fn two_faults() -> Vec<Sight> {
-    let of_a_call = [
-        (Class::Turn, Class::Limit),
-        (Class::Turn, Class::Byte),
-        (Class::Turn, Class::Field),
-        (Class::Turn, Class::Room),
-        (Class::Limit, Class::Byte),
-        (Class::Limit, Class::Field),
-        (Class::Limit, Class::Room),
-        (Class::Byte, Class::Room),
-        (Class::Kind, Class::Room),
-        (Class::Field, Class::Room),
-        (Class::Boleto, Class::Room),
-    ];
-    let of_a_record = [
-        (Class::Byte, Class::Kind),
-        (Class::Byte, Class::Field),
-        (Class::Byte, Class::Boleto),
-        (Class::Kind, Class::Field),
-        (Class::Field, Class::Field),
-        (Class::Field, Class::Boleto),
-        (Class::Boleto, Class::Boleto),
-    ];
-    let firsts = [Class::Byte, Class::Kind, Class::Field, Class::Boleto];
-    let of_two = firsts.iter().flat_map(|first| {
-        let seconds = [Class::Byte, Class::Kind, Class::Field];
-        seconds.map(|second| (*first, second))
-    });
     let with = |distance| {
         move |(first, second)| Sight::TwoFaults {
             first,
@@ -199,10 +220,21 @@ fn two_faults() -> Vec<Sight> {
             distance,
         }
     };
-    let of_a_call = of_a_call.into_iter().map(with(Distance::Call));
-    let of_a_record = of_a_record.into_iter().map(with(Distance::OneRecord));
-    let of_two = of_two.map(with(Distance::TwoRecords));
+    let of_a_call = OF_A_CALL.into_iter().map(with(Distance::Call));
+    let of_a_record = OF_A_RECORD.into_iter().map(with(Distance::OneRecord));
+    let of_two = of_two_records().into_iter().map(with(Distance::TwoRecords));
     of_a_call.chain(of_a_record).chain(of_two).collect()
+}
+
+fn of_two_records() -> Vec<(Class, Class)> {
+    let firsts = [Class::Byte, Class::Kind, Class::Field, Class::Boleto];
+    let seconds = [Class::Byte, Class::Kind, Class::Field, Class::Registration];
+    let pairs = firsts.into_iter();
+    let pairs = pairs.flat_map(|first| seconds.map(|second| (first, second)));
+    // Only a Z may come behind a record with a CPF or a CNPJ.
+    let behind_a_number = [Class::Byte, Class::Kind];
+    let behind_a_number = behind_a_number.map(|second| (Class::Registration, second));
+    pairs.chain(behind_a_number).collect()
 }
 
 fn rooms() -> Vec<Sight> {

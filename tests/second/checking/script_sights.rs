@@ -19,6 +19,7 @@ pub enum Class {
     Byte,
     Kind,
     Field,
+    Registration,
     Boleto,
     Room,
 }

@@ -10,6 +10,7 @@ use crate::checking::absence_tally::AbsenceTally;
 use crate::checking::due_tally::DueTally;
 use crate::checking::movement_tally::MovementTally;
 use crate::checking::part_tally::PartTally;
+use crate::checking::registration_tally::RegistrationTally;
 use crate::checking::script_tally::ScriptTally;
 use crate::paper::answers::{Answer, Verdict};
 
@@ -22,9 +23,10 @@ const MALFORMED_REQUEST: &str = "malformed";
 const FIELD_CHECK: u32 = 42;
 
 /// Each answer with the columns in which it can occur. Reading a file can give
-/// every number from 1 to 23, in a whole file, in single-line calls and in parts.
+/// every number from 1 to 23 and 26, in a whole file, in single-line calls and in
+/// parts; of a record alone 26 is never said.
 /// No request is long enough for the writer to give 23 or 25.
-const ANSWERS: [(&str, &[&str]); 34] = [
+const ANSWERS: [(&str, &[&str]); 35] = [
     (ACCEPTED, &["B", "D", "C", "W", "F", "L", "P", "T"]),
     ("1", &["C", "F", "L", "T"]),
     ("2", &["F", "L", "T"]),
@@ -49,6 +51,7 @@ const ANSWERS: [(&str, &[&str]); 34] = [
     ("21", &["F", "L", "T"]),
     ("22", &["F", "L", "T"]),
     ("23", &["F", "L", "T"]),
+    ("26", &["F", "L", "P", "T"]),
     ("40", &["B", "D"]),
     ("41", &["B", "D"]),
     ("42 at 10", &["D"]),
@@ -71,6 +74,7 @@ pub struct Tally {
     scripts: ScriptTally,
     parts: PartTally,
     absences: AbsenceTally,
+    registrations: RegistrationTally,
 }
 
 impl Tally {
@@ -82,6 +86,7 @@ impl Tally {
             *self.seen.entry(key).or_default() += 1;
         }
         self.absences.count(request, answer);
+        self.registrations.count(request, answer);
         match request.call() {
             Some(Call::CheckFile) => {
                 self.dues.count(&request.payload, answer);
@@ -127,6 +132,7 @@ impl Tally {
         gaps.extend(self.scripts.gaps());
         gaps.extend(self.parts.gaps());
         gaps.extend(self.absences.gaps());
+        gaps.extend(self.registrations.gaps());
         gaps
     }
 }
@@ -182,6 +188,7 @@ impl fmt::Display for Tally {
             self.scripts.summary(),
             self.parts.summary(),
             self.absences.summary(),
+            self.registrations.summary(),
         ];
         write!(out, "\n{}", summaries.join("\n"))
     }

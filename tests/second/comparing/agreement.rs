@@ -3,7 +3,8 @@
 
 use crate::cases::streams;
 use crate::checking::tally::Tally;
-use crate::checking::{absence_claims, digit_claims, file_claims, record_claims, writer_claims};
+use crate::checking::{absence_claims, digit_claims, file_claims, record_claims};
+use crate::checking::{registration_claims, writer_claims};
 use crate::comparing::compare;
 
 /// Says what agrees, or how the first request that does not is answered.
@@ -12,6 +13,7 @@ pub fn check(command: &[String]) -> Result<(), String> {
     let guarded = digit_claims::check(&barcodes)?;
     let fixed_refused = record_claims::check()?;
     let absent = absence_claims::check()?;
+    let registrations = registration_claims::check()?;
     let files_refused = file_claims::check()?;
     let files_written = writer_claims::check()?;
     let mut tally = Tally::default();
@@ -33,6 +35,7 @@ pub fn check(command: &[String]) -> Result<(), String> {
         "changed bytes of numbers that may be not given: {} accepted, {} refused",
         absent.accepted, absent.refused
     );
+    println!("CPF and CNPJ worked out by hand, all as they should be: {registrations}");
     println!("changed bytes at guarded places of files, all refused: {files_refused}");
     println!("files written as they are made, byte for byte: {files_written}");
     println!("{tally}");

@@ -10,10 +10,13 @@ use crate::damage::file_trials;
 use crate::damage::guarded_digits;
 use crate::damage::other_bytes::BYTES_TRIED;
 use crate::making::good_barcodes::few_of_each_check;
+use crate::making::good_files::MadeLine;
 use crate::making::guarded_samples::{samples, Sample};
 use crate::making::random::Random;
+use crate::paper::layout_table as table;
 use crate::paper::places::{part, Part};
 use crate::paper::record_kinds::RecordKind;
+use crate::paper::registration::{type_before, Registration};
 
 const SEED: u64 = 13;
 /// One in the list of places, three in the demands on files, and two in those on
@@ -82,7 +85,8 @@ fn sown_mistakes(
 
 fn report(samples: &[Sample], files: &[Trials], digit_lines: &[Trials]) -> Result<(), String> {
     let lines: usize = samples.iter().map(|sample| sample.file.lines.len()).sum();
-    let weak = accepted_free_digits(samples, files);
+    let weak = accepted_in(samples, files, is_free_digit);
+    let registered = accepted_in(samples, files, is_in_a_checked_number);
     println!("samples, all accepted: {}, of {lines} lines", samples.len());
     let (places, refused, accepted) = counts(files);
     let moved = count(files, Demand::OtherTotals);
@@ -90,6 +94,7 @@ fn report(samples: &[Sample], files: &[Trials], digit_lines: &[Trials]) -> Resul
     println!("changed bytes at guarded places, all refused: {refused}");
     println!("changed bytes elsewhere, all accepted with the same totals: {accepted}");
     println!("of these, free digits of a barcode with general check 1: {weak}");
+    println!("of these, characters of a CPF or CNPJ that stays right: {registered}");
     println!("changed movements, all accepted with other totals: {moved}");
     let (places, refused, kept) = counts(digit_lines);
     println!(
@@ -99,7 +104,7 @@ fn report(samples: &[Sample], files: &[Trials], digit_lines: &[Trials]) -> Resul
     println!("changed digits at guarded places, all refused: {refused}");
     println!("changed digits behind a general check 1, all accepted: {kept}");
     // Without such changes nothing would show why the claim goes no further.
-    if accepted == 0 || weak == 0 || moved == 0 || kept == 0 {
+    if [accepted, weak, registered, moved, kept].contains(&0) {
         return Err("no change at an unguarded place was tried".to_string());
     }
     Ok(())
@@ -118,15 +123,32 @@ fn count(all: &[Trials], demand: Demand) -> usize {
     changes.count()
 }
 
-fn accepted_free_digits(samples: &[Sample], files: &[Trials]) -> usize {
+/// The accepted changes at places of one sort.
+fn accepted_in(
+    samples: &[Sample],
+    files: &[Trials],
+    is_meant: fn(&MadeLine, usize) -> bool,
+) -> usize {
     let pairs = samples.iter().zip(files);
     let counts = pairs.map(|(sample, trials)| {
         let accepted = trials.changes_with(Demand::Acceptance);
-        let in_free_digits = accepted.filter(|change| {
-            let kind = sample.file.lines[change.line - 1].kind;
-            kind == RecordKind::J && FREE_DIGITS.places().contains(&change.place)
+        let meant = accepted.filter(|change| {
+            let line = &sample.file.lines[change.line - 1];
+            is_meant(line, change.place)
         });
-        in_free_digits.count()
+        meant.count()
     });
     counts.sum()
+}
+
+fn is_free_digit(line: &MadeLine, place: usize) -> bool {
+    line.kind == RecordKind::J && FREE_DIGITS.places().contains(&place)
+}
+
+fn is_in_a_checked_number(line: &MadeLine, place: usize) -> bool {
+    let mut fields = table::registrations(line.kind).into_iter();
+    fields.any(|field| {
+        let checked = Registration::of_type(type_before(field, &line.bytes)).is_some();
+        checked && (field.first..=field.last).contains(&place)
+    })
 }

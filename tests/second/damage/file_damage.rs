@@ -5,10 +5,12 @@ use crate::damage::line_flaws::{self, WRONG_LINE_ENDS};
 use crate::damage::record_flaws::{
     self, fields_to_spoil, known_contents_of, likely_byte, CODES, UNPRINTABLE,
 };
+use crate::damage::registration_flaws::{any_wrong_characters, any_wrong_number, put_typed};
 use crate::making::good_files::{
     any_file, good_pair, put_general_check, record_for_a_file, MadeFile, MadeLine,
 };
 use crate::making::random::Random;
+use crate::making::registrations::TYPES;
 use crate::paper::file_state::BATCH_KINDS;
 use crate::paper::layout_table as table;
 use crate::paper::lines::{LINE_BYTES, LINE_END, RECORD_BYTES};
@@ -22,7 +24,7 @@ use crate::paper::record_kinds::{RecordKind, Subject, RECORD_KINDS};
 pub type Damage = fn(&mut Random, &mut MadeFile);
 
 /// Damages of one line, which leave its kind and its turn as they are.
-pub const LINE_DAMAGES: [Damage; 9] = [
+pub const LINE_DAMAGES: [Damage; 10] = [
     any_byte,
     unprintable_byte,
     other_digit,
@@ -32,6 +34,7 @@ pub const LINE_DAMAGES: [Damage; 9] = [
     spoiled_field,
     known_content,
     boleto_digits,
+    registration,
 ];
 
 /// Damages of what lines there are and how they are taken.
@@ -49,6 +52,8 @@ pub const ORDER_DAMAGES: [Damage; 9] = [
 
 /// Around one line and its line end.
 const LENGTHS_TO_APPEND: [usize; 9] = [1, 2, 7, 240, 241, 242, 243, 484, 1_000];
+/// The number, its characters, or the type before it.
+const DAMAGES_OF_A_REGISTRATION: usize = 3;
 
 fn any_line<'a>(random: &mut Random, file: &'a mut MadeFile) -> &'a mut MadeLine {
     let at = random.below(file.lines.len());
@@ -144,6 +149,23 @@ fn boleto_digits(random: &mut Random, file: &mut MadeFile) {
     if random.coin() {
         put_general_check(line);
     }
+}
+
+/// The number is wrong or has wrong characters, or the type before it is another.
+fn registration(random: &mut Random, file: &mut MadeFile) {
+    let line = any_line(random, file);
+    let kind = line.kind;
+    let fields = table::registrations(kind);
+    if fields.is_empty() {
+        return any_byte(random, file);
+    }
+    let field = random.pick(&fields);
+    let typed = match random.below(DAMAGES_OF_A_REGISTRATION) {
+        0 => any_wrong_number(random, field.width()),
+        1 => any_wrong_characters(random, field.width()),
+        _ => (random.pick(&TYPES), field.of(&line.bytes).to_vec()),
+    };
+    put_typed(kind, field, &typed, &mut line.bytes);
 }
 
 fn lost_line(random: &mut Random, file: &mut MadeFile) {

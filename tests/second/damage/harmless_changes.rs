@@ -7,10 +7,12 @@ use crate::making::good_files::{MadeFile, MadeLine};
 use crate::making::random::Random;
 use crate::paper::boleto_rules::{BoletoRules, BOLETO_RULES};
 use crate::paper::guarded_places::guarded_places;
+use crate::paper::layout_table as table;
 use crate::paper::lines::RECORD_BYTES;
 use crate::paper::places::{self, DIRECTION, MOVEMENT};
 use crate::paper::record_kinds::{Direction, RecordKind, Subject};
 use crate::paper::records::Records;
+use crate::paper::registration::RegistrationRules;
 use crate::paper::Paper;
 
 /// One change at each unguarded place at which one is known.
@@ -72,13 +74,19 @@ impl HarmlessBytes<'_> {
     }
 
     /// Of unguarded places other lines look at the direction alone. So a line
-    /// stays good where its record does, and a J keeps the rules over its fields.
+    /// stays good where its record does, its CPF and CNPJ numbers stay right, and
+    /// a J keeps the rules over its fields.
     fn allow(&self, line: &MadeLine) -> bool {
         let (kind, direction) = (line.kind, self.file.direction);
         let record = &line.bytes[..RECORD_BYTES];
-        let alone = Paper.read_record(Subject { kind, direction }, record);
+        let subject = Subject { kind, direction };
+        let alone = Paper.read_record(subject, record);
+        let mut numbers = table::registrations(kind).into_iter();
+        let is_right = |field| Paper.registration_refusal(field, subject, record).is_none();
         let mut rules = BOLETO_RULES.into_iter();
         let keeps_rules = |rule| Paper.boleto_refusal(rule, record).is_none();
-        alone.accepts() && (kind != RecordKind::J || rules.all(keeps_rules))
+        alone.accepts()
+            && numbers.all(is_right)
+            && (kind != RecordKind::J || rules.all(keeps_rules))
     }
 }

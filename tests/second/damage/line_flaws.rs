@@ -3,11 +3,12 @@
 
 use crate::damage::due_flaws::spoil_due_date;
 use crate::damage::record_flaws::{self, fields_to_spoil, UNPRINTABLE};
+use crate::damage::registration_flaws::{any_wrong_number, put_typed};
 use crate::making::good_files::{
     put_general_check, MadeFile, MadeLine, LARGEST_AMOUNT, LARGEST_BARCODE_CENTS,
 };
 use crate::making::random::Random;
-use crate::paper::layout_table::Field;
+use crate::paper::layout_table::{self as table, Field};
 use crate::paper::lines::RECORD_BYTES;
 use crate::paper::places::{
     Part, AMOUNT_OF_J, BANK, BARCODE_CENTS, BARCODE_CHECK, BATCH_NUMBER, BATCH_RECORDS, BATCH_SUM,
@@ -24,6 +25,8 @@ pub enum Flaw {
     FirstCount,
     SecondCount,
     Sum,
+    /// A CPF or a CNPJ is wrong.
+    Registration(Field),
     Field(Field),
     Bank,
     BatchNumber,
@@ -49,7 +52,10 @@ pub fn flaws_of(subject: Subject) -> Vec<Flaw> {
         RecordKind::J => BOLETO_FLAWS.to_vec(),
         RecordKind::BatchTrailer => vec![Flaw::FirstCount, Flaw::Sum],
         RecordKind::FileTrailer => vec![Flaw::FirstCount, Flaw::SecondCount],
-        _ => Vec::new(),
+        kind => table::registrations(kind)
+            .into_iter()
+            .map(Flaw::Registration)
+            .collect(),
     };
     let is_detail = subject.kind.segment().is_some();
     let numbered = if is_detail { SEGMENT.last } else { TYPE.last };
@@ -95,6 +101,10 @@ fn put(random: &mut Random, flaw: Flaw, made: &mut MadeLine) {
         Flaw::FirstCount => change_number(random, FILE_BATCHES, line),
         Flaw::SecondCount => change_number(random, FILE_RECORDS, line),
         Flaw::Sum => change_number(random, BATCH_SUM, line),
+        Flaw::Registration(field) => {
+            let wrong = any_wrong_number(random, field.width());
+            put_typed(kind, field, &wrong, line);
+        }
         Flaw::Field(field) => record_flaws::spoil(random, field, line),
         Flaw::Bank => spoil_number(random, BANK, line),
         Flaw::BatchNumber => spoil_number(random, BATCH_NUMBER, line),

@@ -17,4 +17,5 @@ pub mod malformed_requests;
 pub mod malformed_scripts;
 pub mod other_bytes;
 pub mod record_flaws;
+pub mod registration_flaws;
 pub mod value_flaws;

@@ -11,6 +11,8 @@ pub const BYTES_TO_TRY: &[u8] = b" !/09:A~\x1F\x7F";
 pub const UNPRINTABLE: &[u8] = b"\x00\n\r\x1F\x7F\x80\xFF";
 const PRINTABLE_NON_DIGITS: &[u8] = b" /:A-~";
 const PRINTABLE_NON_BLANKS: &[u8] = b"0195/:A-~";
+/// The neighbours of digits, capitals and small letters, and some of the last.
+const NEITHER_DIGITS_NOR_CAPITALS: &[u8] = b" /:@[`az{-~";
 /// What a field of one place may hold or be mistaken to hold.
 pub const CODES: &[u8] = b"0123456789ABCJZ abjz";
 
@@ -84,6 +86,7 @@ pub fn spoil(random: &mut Random, field: Field, record: &mut [u8]) {
         Entry::OptionalNumber if all_blank(field.of(record)) => {
             record[at] = random.pick(PRINTABLE_NON_BLANKS);
         }
+        Entry::Identifier => record[at] = random.pick(NEITHER_DIGITS_NOR_CAPITALS),
         _ => record[at] = random.pick(PRINTABLE_NON_DIGITS),
     }
 }

@@ -4,6 +4,7 @@ use crate::making::due_dates::any_due_date;
 use crate::making::good_records::good_record;
 use crate::making::numbering::Numbering;
 use crate::making::random::Random;
+use crate::making::registrations::put_right_numbers;
 use crate::paper::digit_strings::DigitRules;
 use crate::paper::due_factors::DueFactors;
 use crate::paper::file_state::{BatchKind, BATCH_KINDS};
@@ -152,6 +153,7 @@ pub fn good_pair(random: &mut Random, kind: BatchKind, direction: Direction) -> 
 /// other lines is still to be filled in.
 pub fn record_for_a_file(random: &mut Random, kind: RecordKind, direction: Direction) -> Vec<u8> {
     let mut record = good_record(random, Subject { kind, direction });
+    put_right_numbers(random, kind, &mut record);
     match kind {
         RecordKind::FileHeader => DIRECTION.put(&mut record, &[direction.code()]),
         RecordKind::A => AMOUNT_OF_A.put_number(&mut record, u128::from(any_amount(random))),

@@ -2,6 +2,7 @@
 //! with ordinary contents as often as with those at the edge of what it allows.
 
 use crate::making::random::Random;
+use crate::making::registrations;
 use crate::paper::calendar::{Calendar, FIRST_YEAR, LAST_YEAR, MONTHS};
 use crate::paper::digit_strings::{CURRENCY, CURRENCY_PLACE};
 use crate::paper::layout_table::{
@@ -10,6 +11,7 @@ use crate::paper::layout_table::{
 use crate::paper::lines::RECORD_BYTES;
 use crate::paper::record_kinds::{Direction, Subject};
 use crate::paper::record_rules::all_blank;
+use crate::paper::registration::type_before;
 use crate::paper::Paper;
 
 const BLANK: u8 = b' ';
@@ -42,6 +44,11 @@ pub fn good_record(random: &mut Random, subject: Subject) -> Vec<u8> {
         let content = match field.entry {
             Entry::Service => service.to_vec(),
             Entry::Form => form.to_vec(),
+            // The type stands to the left and is there by now.
+            Entry::Identifier => {
+                let code = type_before(field, &record);
+                registrations::content_of_a_record(random, code, field.width())
+            }
             _ => good_content(random, field, subject.direction),
         };
         field.put(&mut record, &content);
@@ -62,7 +69,7 @@ fn good_content(random: &mut Random, field: Field, direction: Direction) -> Vec<
     let reserved = direction == Direction::Remittance;
     match field.entry {
         Entry::OptionalNumber if random.below(NOT_GIVEN_ONCE_IN) == 0 => vec![BLANK; width],
-        Entry::Number | Entry::OptionalNumber | Entry::Identifier => digits(random, width),
+        Entry::Number | Entry::OptionalNumber => digits(random, width),
         Entry::Barcode => barcode(random, width),
         Entry::Text => text(random, width),
         Entry::Date => date(random).into_bytes(),
@@ -72,7 +79,7 @@ fn good_content(random: &mut Random, field: Field, direction: Direction) -> Vec<
         Entry::BlankInRemittance if !reserved => free(random, width),
         Entry::Free => free(random, width),
         Entry::Blank | Entry::BlankInRemittance => vec![BLANK; width],
-        Entry::Service | Entry::Form => Vec::new(),
+        Entry::Service | Entry::Form | Entry::Identifier => Vec::new(),
     }
 }
 

@@ -17,3 +17,4 @@ pub mod numbering;
 pub mod plain_files;
 pub mod plain_records;
 pub mod random;
+pub mod registrations;

@@ -7,7 +7,8 @@ use crate::making::due_dates::{due_date, DueDate};
 use crate::making::good_files::put_factor;
 use crate::making::movements::put_movement;
 use crate::making::numbering::Numbering;
-use crate::making::plain_records::{self, Bill, BANK, PAYEES};
+use crate::making::plain_records::{self, Bill, Payee, BANK, PAYEES};
+use crate::making::plain_records::{LETTERED_PAYEE, MISTYPED_PAYEE};
 use crate::paper::calendar::MONTHS;
 use crate::paper::due_factors::LARGEST_FACTOR;
 use crate::paper::file_state::BatchKind;
@@ -17,7 +18,7 @@ use crate::paper::record_kinds::{Direction, RecordKind};
 use crate::paper::totals::Movement;
 
 /// Names of the files, as they are asked for.
-pub const NAMES: [&str; 10] = [
+pub const NAMES: [&str; 12] = [
     "one-payment",
     "boleto",
     "last-round",
@@ -27,6 +28,8 @@ pub const NAMES: [&str; 10] = [
     "withdrawn-return",
     "not-paid-yet",
     "half-blank",
+    "lettered",
+    "wrong-check-digit",
     "bench N",
 ];
 const BENCH: &str = "bench";
@@ -115,9 +118,13 @@ impl PlainFile<'_> {
         cents: u64,
         change: fn(&mut [u8]),
     ) -> io::Result<()> {
+        self.credit_to(&PAYEES[payee], cents, change)
+    }
+
+    fn credit_to(&mut self, payee: &Payee, cents: u64, change: fn(&mut [u8])) -> io::Result<()> {
         self.documents += 1;
         let [(kind, mut first), second] =
-            plain_records::credit_records(&PAYEES[payee], self.documents, cents);
+            plain_records::credit_records(payee, self.documents, cents);
         change(&mut first);
         self.add_payment([(kind, first), second])
     }
@@ -133,9 +140,13 @@ impl PlainFile<'_> {
         bill: Bill,
         change: fn(&mut [u8]),
     ) -> io::Result<()> {
+        self.boleto_of(&PAYEES[payee], bill, change)
+    }
+
+    fn boleto_of(&mut self, payee: &Payee, bill: Bill, change: fn(&mut [u8])) -> io::Result<()> {
         self.documents += 1;
         let [(kind, mut first), second] =
-            plain_records::boleto_records(&PAYEES[payee], self.documents, bill);
+            plain_records::boleto_records(payee, self.documents, bill);
         change(&mut first);
         self.add_payment([(kind, first), second])
     }
@@ -222,6 +233,8 @@ pub fn write(out: &mut dyn Write, name: &[String]) -> Result<(), String> {
         ["half-blank"] => {
             write_unpaid_return(out, |record| put_paid(record, PAID_ON, b"          89990"))
         }
+        ["lettered"] => write_lettered(out),
+        ["wrong-check-digit"] => write_wrong_check_digit(out),
         [BENCH, payments] => write_bench(out, bench_payments(payments)?),
         _ => return Err(format!("no file is named {}", name.join(" "))),
     };
@@ -313,6 +326,30 @@ fn write_unpaid_return(out: &mut dyn Write, change: fn(&mut [u8])) -> io::Result
     file.z()?;
     file.changed_credit(2, 89_990, change)?;
     file.credit(1, 76_420)?;
+    file.close_batch()?;
+    file.close()
+}
+
+/// A credit and a boleto of a company whose CNPJ has letters.
+pub fn write_lettered(out: &mut dyn Write) -> io::Result<()> {
+    let mut file = PlainFile::begin(out, Direction::Remittance)?;
+    file.open_batch(BatchKind::Credit)?;
+    file.credit_to(&LETTERED_PAYEE, 189_000, |_| {})?;
+    file.credit(2, 89_990)?;
+    file.close_batch()?;
+    file.open_batch(BatchKind::Boleto)?;
+    let bill = bill(64_500, 0, 0, Some(DUE_SOON));
+    file.boleto_of(&LETTERED_PAYEE, bill, |_| {})?;
+    file.close_batch()?;
+    file.close()
+}
+
+/// Of two credits the second is for a CNPJ that was mistyped.
+pub fn write_wrong_check_digit(out: &mut dyn Write) -> io::Result<()> {
+    let mut file = PlainFile::begin(out, Direction::Remittance)?;
+    file.open_batch(BatchKind::Credit)?;
+    file.credit(0, 315_000)?;
+    file.credit_to(&MISTYPED_PAYEE, 76_420, |_| {})?;
     file.close_batch()?;
     file.close()
 }

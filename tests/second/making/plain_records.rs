@@ -25,7 +25,7 @@ const AGREEMENT: &str = "CONVENIO 004711";
 const EMPTY_BARCODE: &[u8] = b"08590000000000000000104080001111100000000401";
 
 /// Whom the clinic pays: the kind of number (1 CPF, 2 CNPJ), the number with 14
-/// digits, bank, agency, account and the street.
+/// characters, bank, agency, account and the street.
 pub struct Payee {
     name: &'static str,
     number_kind: &'static str,
@@ -74,6 +74,23 @@ pub const PAYEES: [Payee; 4] = [
         street: "PRACA DA MATRIZ",
     },
 ];
+
+/// A company whose CNPJ has letters, as request 7 of document 02 has it.
+pub const LETTERED_PAYEE: Payee = Payee {
+    name: "CLINICA VETERINARIA ALFA LTDA",
+    number_kind: "2",
+    number: "12ABC34501DE35",
+    bank: "001",
+    agency: "03210",
+    account: "000000045678",
+    street: "RUA DO MERCADO",
+};
+
+/// One of those above, with the check digits of its CNPJ swapped.
+pub const MISTYPED_PAYEE: Payee = Payee {
+    number: "34567890000103",
+    ..PAYEES[1]
+};
 
 /// What a boleto says, in cents; the amount follows from the rest.
 #[derive(Clone, Copy)]

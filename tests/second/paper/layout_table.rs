@@ -19,7 +19,8 @@ pub enum Entry {
     Number,
     /// N too, but blank where it is not given (request 2 of document 02).
     OptionalNumber,
-    /// N too: a CPF or CNPJ number, which is no quantity and is read as bytes.
+    /// A CPF or CNPJ number, which is no quantity and is read as bytes. What it
+    /// may hold goes by the type before it (request 7 of document 02).
     Identifier,
     Barcode,
     /// T.
@@ -115,6 +116,13 @@ pub fn optional_numbers(kind: RecordKind) -> Vec<(usize, Field)> {
     let fields = fields(kind).into_iter().enumerate();
     let optional = fields.filter(|(_, field)| field.entry == Entry::OptionalNumber);
     optional.collect()
+}
+
+/// The fields of a record that hold a CPF or a CNPJ, from left to right.
+pub fn registrations(kind: RecordKind) -> Vec<Field> {
+    let mut fields = fields(kind);
+    fields.retain(|field| field.entry == Entry::Identifier);
+    fields
 }
 
 /// The other half of the pair that begins with the service.

@@ -21,6 +21,7 @@ pub enum Row {
     PaymentLimit,
     Field(Field),
     Count(Part),
+    Registration(Field),
     Boleto(BoletoRule),
     Sum,
     Total,
@@ -39,6 +40,11 @@ pub fn rows_in_order(kind: Option<RecordKind>) -> Vec<Row> {
             rows.extend([Row::DetailNumber, Row::Segment, Row::PaymentLimit]);
         }
         rows.extend(field_rows(kind));
+        rows.extend(
+            table::registrations(kind)
+                .into_iter()
+                .map(Row::Registration),
+        );
         if kind == RecordKind::J {
             rows.extend(BOLETO_RULES.map(Row::Boleto));
         }

@@ -146,6 +146,10 @@ pub trait LineRules: RecordRules + BoletoRules {
                 let begins_payment = places::amount(kind).is_some();
                 (over && begins_payment).then_some((OVER_A_LIMIT, SEGMENT.first))
             }
+            Row::Registration(field) => {
+                let direction = self.direction_of(state, kind, line);
+                self.registration_refusal(field, Subject { kind, direction }, line)
+            }
             Row::Boleto(rule) => self.boleto_refusal(rule, line),
             Row::Count(_) | Row::Sum | Row::Total => self.trailer_refusal(kind, row, state, line),
             _ => self.refusal_by_form(row, state, line),

@@ -1,5 +1,5 @@
-//! The papers read again: document 01, with requests 2, 3 and 13 of document 02
-//! in it, and request 1, which adds calls of its own. To be laid beside document
+//! The papers read again: document 01, with requests 2, 3, 7 and 13 of document
+//! 02 in it, and request 1, which adds calls of its own. To be laid beside document
 //! 01, section by section:
 //!
 //! | section of document 01 | here |
@@ -15,6 +15,7 @@
 //! | Table of proved examples | `examples` |
 //! | (document 02) request 1 | `parts` |
 //! | .. request 2 | `layout_table`, `record_rules`, `records`, `answers` |
+//! | .. request 7 | `registration`, `record_rules`, `line_order`, `writer_order` |
 //!
 //! A rule is a method of a trait, and its body is what the paper says. `Paper`
 //! takes every rule as it stands. That a rule can be replaced from outside is
@@ -41,6 +42,7 @@ pub mod places;
 pub mod record_kinds;
 pub mod record_rules;
 pub mod records;
+pub mod registration;
 pub mod totals;
 pub mod writer;
 pub mod writer_calls;

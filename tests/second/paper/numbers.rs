@@ -30,6 +30,8 @@ pub const WRONG_SUM: u32 = 22;
 pub const TOTAL_TOO_LARGE: u32 = 23;
 /// In the writer alone.
 pub const TOO_MANY_RECORDS: u32 = 25;
+/// A CPF or CNPJ, by request 7 of document 02.
+pub const WRONG_REGISTRATION: u32 = 26;
 
 /// Of digit strings alone.
 pub const WRONG_DIGIT_COUNT: u32 = 40;

@@ -11,6 +11,7 @@ use super::numbers::{BLANK_BEFORE_TEXT, NON_DIGIT, NO_DATE_OR_TIME, OUTPUT_TOO_S
 use super::numbers::{OUTSIDE_DOMAIN, WRONG_BYTE, WRONG_FIXED_CONTENT, WRONG_LENGTH};
 use super::numbers::{WRONG_SEGMENT, WRONG_TYPE};
 use super::record_kinds::{Direction, RecordKind, Subject};
+use super::registration::RegistrationRules;
 use super::Paper;
 
 const FIRST_PRINTABLE: u8 = 32;
@@ -56,7 +57,7 @@ fn rows_in_order(kind: RecordKind, room: Option<usize>) -> Vec<Row> {
     rows
 }
 
-pub trait RecordRules: Calendar {
+pub trait RecordRules: Calendar + RegistrationRules {
     fn record_verdict(&self, subject: Subject, draft: &Draft, room: Option<usize>) -> Verdict {
         let mut rows = self.record_rows(subject.kind, room).into_iter();
         let refusal = rows.find_map(|row| self.record_refusal(row, subject, draft));
@@ -118,6 +119,9 @@ pub trait RecordRules: Calendar {
         if field.entry == Entry::OptionalNumber {
             return self.optional_number_refusal(field, subject, draft);
         }
+        if field.entry == Entry::Identifier {
+            return self.character_refusal(field, subject, &draft.bytes);
+        }
         if draft.too_wide.contains(&field) {
             return Some((self.number_when_too_wide(field)?, field.first));
         }
@@ -149,10 +153,11 @@ pub trait RecordRules: Calendar {
     }
 
     /// Whether the content is what the table enters for the field. Barcodes,
-    /// pairs and numbers that may be not given have tests of their own.
+    /// pairs, CPF and CNPJ, and numbers that may be not given have tests of their
+    /// own.
     fn is_right(&self, field: Field, subject: Subject, content: &[u8]) -> bool {
         match field.entry {
-            Entry::Number | Entry::Identifier => all_digits(content),
+            Entry::Number => all_digits(content),
             Entry::Text => content[0] != b' ' || all_blank(content),
             Entry::Date => self.has_date(content),
             Entry::Time => self.has_time(content),
@@ -162,7 +167,7 @@ pub trait RecordRules: Calendar {
             }
             Entry::Exact(wanted) => content == wanted,
             Entry::OneOf(domain) => domain.contains(&content[0]),
-            Entry::Free | Entry::OptionalNumber => true,
+            Entry::Free | Entry::OptionalNumber | Entry::Identifier => true,
             Entry::Barcode | Entry::Service | Entry::Form => true,
         }
     }

@@ -14,6 +14,7 @@ pub enum Row {
     Bytes(usize),
     Segment(usize),
     Field(usize, Field),
+    Registration(usize, Field),
     Boleto(usize, BoletoRule),
     Total,
     Room,
@@ -23,7 +24,8 @@ impl Row {
     /// The record of the call that the row is about.
     pub fn record(self) -> Option<usize> {
         match self {
-            Row::Bytes(at) | Row::Segment(at) | Row::Field(at, _) | Row::Boleto(at, _) => Some(at),
+            Row::Bytes(at) | Row::Segment(at) | Row::Field(at, _) => Some(at),
+            Row::Registration(at, _) | Row::Boleto(at, _) => Some(at),
             Row::Turn | Row::Limit | Row::RecordLimit | Row::Total | Row::Room => None,
         }
     }
@@ -36,6 +38,8 @@ pub fn rows_in_order(kinds: &[RecordKind]) -> Vec<Row> {
         rows.extend([Row::Bytes(at), Row::Segment(at)]);
         let fields = table::fields(*kind).into_iter();
         rows.extend(fields.map(|field| Row::Field(at, field)));
+        let registrations = table::registrations(*kind).into_iter();
+        rows.extend(registrations.map(|field| Row::Registration(at, field)));
         if *kind == RecordKind::J {
             rows.extend(BOLETO_RULES.map(|rule| Row::Boleto(at, rule)));
         }

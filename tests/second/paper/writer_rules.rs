@@ -84,6 +84,9 @@ pub trait WriterRules: GivenRecordRules + Filling {
             Row::Bytes(at) => self.byte_refusal(&attempt.drafts[at].bytes),
             Row::Segment(at) => self.given_segment_refusal(attempt, at),
             Row::Field(at, field) => self.given_field_refusal(attempt, at, field),
+            Row::Registration(at, field) => {
+                self.registration_refusal(field, attempt.subject(at), &attempt.drafts[at].bytes)
+            }
             Row::Boleto(at, rule) => self.given_boleto_refusal(&attempt.drafts[at], rule),
             Row::Total => {
                 let total = self.total_written(attempt.totals());

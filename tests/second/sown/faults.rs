@@ -6,6 +6,7 @@ use super::absence_faults::{AbsenceFault, ABSENCE_FAULTS};
 use super::limits::{LimitFault, LIMIT_FAULTS};
 use super::names::hyphenated;
 use super::part_faults::{PartFault, PART_FAULTS};
+use super::registration_faults::{RegistrationFault, REGISTRATION_FAULTS};
 use super::totals::{TotalsFault, TOTALS_FAULTS};
 use super::writer_faults::{of_the_writer, WriterFault, WRITER_FAULTS};
 use crate::asking::probe::{Op, Request};
@@ -109,13 +110,14 @@ pub enum Fault {
     WriterLimit(LimitFault),
     /// In this op alone.
     Absence(AbsenceFault, Op),
+    Registration(RegistrationFault, Op),
 }
 
 impl Fault {
     /// Whether a request can show the fault.
     pub fn is_about(self, request: &Request) -> bool {
         match self {
-            Fault::Absence(_, op) => op.code() == request.op_code(),
+            Fault::Absence(_, op) | Fault::Registration(_, op) => op.code() == request.op_code(),
             _ => true,
         }
     }
@@ -330,23 +332,41 @@ pub fn faults_about(topic: Topic) -> Vec<(String, Fault)> {
         }
     }
     faults.extend(absence_faults_about(topic));
+    faults.extend(registration_faults_about(topic));
     faults
 }
 
 /// Each fault in each op of the topic that can show it.
 fn absence_faults_about(topic: Topic) -> Vec<(String, Fault)> {
-    let ops: &[Op] = match topic {
+    let mut faults = Vec::new();
+    for fault in ABSENCE_FAULTS {
+        let shown_in = ops_about(topic)
+            .iter()
+            .filter(|op| fault.ops().contains(op));
+        faults.extend(shown_in.map(|op| (fault.name(*op), Fault::Absence(*fault, *op))));
+    }
+    faults
+}
+
+fn registration_faults_about(topic: Topic) -> Vec<(String, Fault)> {
+    let mut faults = Vec::new();
+    for fault in REGISTRATION_FAULTS {
+        let shown_in = ops_about(topic)
+            .iter()
+            .filter(|op| fault.ops().contains(op));
+        faults.extend(shown_in.map(|op| (fault.name(*op), Fault::Registration(*fault, *op))));
+    }
+    faults
+}
+
+/// The ops that read or write records.
+fn ops_about(topic: Topic) -> &'static [Op] {
+    match topic {
         Topic::StringsAndRecords => &[Op::ReadRecord, Op::WriteRecord],
         Topic::Files => &[Op::CheckFile, Op::CheckLines],
         Topic::Parts => &[Op::CheckParts],
         Topic::Writer => &[Op::WriteFile],
-    };
-    let mut faults = Vec::new();
-    for fault in ABSENCE_FAULTS {
-        let shown_in = ops.iter().filter(|op| fault.ops().contains(op));
-        faults.extend(shown_in.map(|op| (fault.name(*op), Fault::Absence(*fault, *op))));
     }
-    faults
 }
 
 fn named(faults: &[(&str, Fault)]) -> Vec<(String, Fault)> {

@@ -3,6 +3,7 @@
 use super::faults::Fault;
 use super::limits;
 use super::order::move_before;
+use super::registration_order;
 use super::Sown;
 use crate::paper::boleto_rules::BoletoRule;
 use crate::paper::file_state::{Batch, BatchKind, Last, State};
@@ -27,6 +28,9 @@ impl LineRules for Sown {
         }
         if let Some((moved, other)) = self.row_moved(&rows) {
             move_before(&mut rows, moved, other);
+        }
+        if let Some(fault) = self.registration_fault() {
+            registration_order::disturb_line(&mut rows, fault);
         }
         rows
     }

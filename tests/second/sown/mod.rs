@@ -21,6 +21,10 @@ mod part_faults;
 mod part_slips;
 mod parts;
 mod records;
+mod registration_characters;
+mod registration_faults;
+mod registration_order;
+mod registrations;
 mod totals;
 mod writer;
 mod writer_faults;
@@ -35,6 +39,7 @@ use absence_faults::AbsenceFault;
 use faults::Fault;
 use limits::LimitFault;
 use part_faults::PartFault;
+use registration_faults::RegistrationFault;
 use totals::TotalsFault;
 use writer_faults::WriterFault;
 
@@ -57,6 +62,14 @@ impl Sown {
     fn absence_fault(self) -> Option<AbsenceFault> {
         match self.fault {
             Fault::Absence(fault, _) => Some(fault),
+            _ => None,
+        }
+    }
+
+    /// The fault, if it is one about CPF and CNPJ.
+    fn registration_fault(self) -> Option<RegistrationFault> {
+        match self.fault {
+            Fault::Registration(fault, _) => Some(fault),
             _ => None,
         }
     }

@@ -83,6 +83,7 @@ const SEGMENT: i32 = 10;
 const BEFORE_FIELDS: i32 = 15;
 const FIELDS: i32 = 20;
 const BEHIND_FIELDS: i32 = 25;
+const REGISTRATION: i32 = 28;
 const BOLETO: i32 = 30;
 
 const CHECK: i32 = 0;
@@ -99,6 +100,7 @@ impl Rank {
             Row::Bytes(_) => (RECORDS, BYTES, 0),
             Row::Segment(_) => (RECORDS, SEGMENT, 0),
             Row::Field(_, field) => (RECORDS, FIELDS, field.first as i32),
+            Row::Registration(_, field) => (RECORDS, REGISTRATION, field.first as i32),
             Row::Boleto(_, rule) => (RECORDS, BOLETO, place_of_rule(rule)),
             Row::Total => (TOTAL, 0, 0),
             Row::Room => (ROOM, 0, 0),

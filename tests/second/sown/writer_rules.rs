@@ -2,6 +2,7 @@
 //! the room that it asks for.
 
 use super::limits;
+use super::registration_order;
 use super::writer_faults::WriterFault;
 use super::writer_order;
 use super::Sown;
@@ -83,6 +84,9 @@ impl WriterRules for Sown {
         let mut rows = Paper.call_rows(attempt);
         if let Some(fault) = self.writer_fault() {
             writer_order::disturb(&mut rows, fault, attempt);
+        }
+        if let Some(fault) = self.registration_fault() {
+            registration_order::disturb_call(&mut rows, fault);
         }
         rows
     }

@@ -13,6 +13,7 @@ use Rattle.answer.specs.Rules.{firstBroken}
 use Rattle.answer.specs.declared.Answer.the-variants.{Accepted}
 use Rattle.digits.specs.Digits.{digitByte, place}
 use Rattle.digits.specs.laws.Strings.{Digit, Digits, part-set, part-kept, part-getD, set-append-right}
+use Rattle.digits.specs.laws.Moduli.{ten-tells-digits, eleven-tells-digits}
 use Rattle.digits.specs.laws.Seals.{Sealed, one-change, neighbours}
 use Rattle.digits.specs.declared.sealing.Modulus.the-variants.{Ten, Eleven}
 use Rattle.boleto.specs.Strings.{barcodeDigits, lineDigits, barcodeCheck, lineCheck, barcodeOf}
@@ -38,7 +39,7 @@ module _ (bar : List ℕ) (i v : ℕ) (b : Barcode bar) (b′ : Barcode (set bar
   barcode-same : (i ≢ 4 → sharp (getD bar 4 0)) → v ≡ getD bar i 0
   barcode-same f =
       let hi : i < length bar = omega arith in
-      one-change Eleven bar 4 i v (omega arith) hi (b .seal) (b′ .seal) (b .digits .each i hi) (stored-digit bar i v hi (b′ .digits)) f
+      one-change Eleven bar 4 i v (omega arith) hi (b .seal) (b′ .seal) eleven-tells-digits (b .digits .each i hi) (stored-digit bar i v hi (b′ .digits)) f
 
 -- one byte of an accepted barcode changed at a guarded place is refused
 pub barcode-change : (bar : List ℕ) (p v : ℕ) → firstBroken (barcodeRules bar) ≡ Accepted → GuardedInBarcode bar p → v ≢ place p bar →
@@ -73,7 +74,7 @@ field-same l a n i v fits lo up ds ds′ s s′ =
     let f = take (suc n) (drop a l) in
     let long : length f ≡ suc n = simp (length-take, length-drop) (omega arith) in
     let same = part-getD l a (suc n) i v lo up in
-    one-change Ten f n (i - a) v (omega arith) (omega arith) s (rw (part-set l a (suc n) i v lo up) at s′) (rw same (ds .each i (omega arith)))
+    one-change Ten f n (i - a) v (omega arith) (omega arith) s (rw (part-set l a (suc n) i v lo up) at s′) ten-tells-digits (rw same (ds .each i (omega arith)))
     (stored-digit l i v (omega arith) ds′) (λ _. tt)
     ∙ same
 
@@ -98,7 +99,7 @@ module _ (l : List ℕ) (i v : ℕ) (a : Line l) (a′ : Line (set l i v)) (h : 
   general-same lo =
       let b = barcode-long l (a .long) in
       let same = tail-getD l i (a .long) lo h in
-      one-change Eleven (barcodeOf l) 4 (i - 28) v (omega arith) (omega arith) (a .seal) (rw (tail l i v (a .long) lo h) at (a′ .seal)) (rw same (a .digits .each i (omega arith)))
+      one-change Eleven (barcodeOf l) 4 (i - 28) v (omega arith) (omega arith) (a .seal) (rw (tail l i v (a .long) lo h) at (a′ .seal)) eleven-tells-digits (rw same (a .digits .each i (omega arith)))
       (stored-digit l i v (omega arith) (a′ .digits))
       (λ ne. rw (tail-getD l 32 (a .long) (omega arith) (omega arith)) (sharp-of _ (a .digits .each 32 (omega arith) .0) (f (omega arith))))
       ∙ same

@@ -3,6 +3,7 @@ use mathlib.Core.Path.{_≡_}
 use mathlib.Core.Bool.{true}
 use mathlib.Core.List.{List, [], _∷_}
 use Prim.Native.Nat.{ℕ, _≤_}
+use lib.Dec.{T}
 use Rattle.answer.specs.Rules.{firstBroken}
 use Rattle.answer.specs.declared.Refusal.{Refusal}
 use Rattle.answer.specs.declared.Answer.the-variants.{Refused}
@@ -12,7 +13,7 @@ use Rattle.checker.specs.Line.{recordIn, rulesOfLine}
 use Rattle.checker.specs.Machine.{sound, answerTo, stepOf}
 use Rattle.checker.specs.Calls.{Reached, at-start, after-line, left}
 use Rattle.checker.specs.declared.Checker.{Checker}
-use Rattle.checker.specs.laws.Listed.{lastNumber, line-listed, broken-listed}
+use Rattle.checker.specs.laws.Listed.{numbered, line-listed, broken-listed}
 use Rattle.checker.specs.laws.Meaning.{by-rules, line-refused}
 use Rattle.checker.specs.laws.Bounds.{bounded-sound, room}
 use Rattle.checker.specs.inner.Steps.{Room}
@@ -36,11 +37,11 @@ module _ {s : Checker} (c : Reached s) where
   pub never-guarded : (line : List ℕ) → stepOf s line ≡ answerTo (firstBroken (rulesOfLine s line)) s (recordIn line)
   never-guarded line = by-rules s line (reached c)
 
-  -- and so a refusal's number is one of the table, 1 to 23
-  pub line-number : (line : List ℕ) (r : Refusal) → stepOf s line .answer ≡ Refused r → (1 ≤ r .number) × (r .number ≤ lastNumber)
+  -- and so a refusal's number is one of the table, 1 to 23 or 26
+  pub line-number : (line : List ℕ) (r : Refusal) → stepOf s line .answer ≡ Refused r → (1 ≤ r .number) × T (numbered (r .number))
   line-number line r e =
       let t = broken-listed (line-listed s line) (line-refused s line (reached c) r .0 e .broken) in
-      (t .low, t .high)
+      (t .low, t .is-among)
 
 -- ---- no sum of a line leaves 64 bits
 

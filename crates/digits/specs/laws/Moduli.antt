@@ -1,20 +1,20 @@
--- What the two moduli tell apart: facts of finitely many numbers, each one test that antt computes. Assumes nothing.
+-- What the moduli tell apart: facts of finitely many numbers, each one test that antt computes. Assumes nothing.
 use mathlib.Core.Path.{_≡_, refl, sym, ap, _∙_, subst}
 use mathlib.Core.Logic.{_≢_}
 use mathlib.Core.Bool.{Bool, false, not, _||_}
 use mathlib.Core.List.{List, [], _∷_, _++_}
 use Prim.Native.Nat.{ℕ, suc, _+_, _*_, _/_, _%_, _<_, _≤_}
-use native.Mathlib.Nat.{mod-lt, mod-mod, suc-mod, add-mod, add-mul, mul-right-comm, div-add-mod', mul-add-mod-self-right}
+use native.Mathlib.Nat.{mod-lt, mod-mod, suc-mod, add-mod, add-mul, mul-comm, mul-right-comm, div-add-mod', mul-add-mod-self-right}
 use native.Mathlib.Omega.{arith}
 use lib.Dec.{T, eqb, leb, eqb→eq, leb→le, not-T, T-not, lit<}
 use borrow.Author.Tests.{eq-eqb}
 use lib.ListN.{length}
 use Rattle.digits.specs.Digits.{digitOf, weighed}
-use Rattle.digits.specs.Checks.{base, weight, counts, lift}
+use Rattle.digits.specs.Checks.{base, valueOf, weight, counts, lift}
 use Rattle.digits.specs.declared.sealing.Modulus.{Modulus}
-use Rattle.digits.specs.declared.sealing.Modulus.the-variants.{Ten, Eleven}
+use Rattle.digits.specs.declared.sealing.Modulus.the-variants.{Ten, Eleven, PlainEleven, LongEleven}
 use Rattle.digits.specs.laws.Tests.{every, every-at, apart, apart-at, or-left}
-use Rattle.digits.specs.laws.Strings.{Digit, digit-small, same-digit}
+use Rattle.digits.specs.laws.Strings.{Digit, is-digit, digit-small, same-digit}
 use Rattle.digits.specs.laws.Sums.{replaced, one, two}
 
 -- ---- what weights must do, and what follows for a string of any length
@@ -29,16 +29,16 @@ pub record TellsNeighbours (M : ℕ) (f : ℕ → ℕ → ℕ) : Type 0 where
 
 module _ (M : ℕ) (f : ℕ → ℕ → ℕ) (xs zs : List ℕ) (a b : ℕ) (da : Digit a) (db : Digit b) (ne : a ≢ b) where
   -- one digit changed changes the sum
-  pub digit-changed : TellsDigits M f → weighed f (xs ++ ((a ∷ []) ++ zs)) % M ≢ weighed f (xs ++ ((b ∷ []) ++ zs)) % M
+  pub digit-changed : TellsDigits M f → weighed digitOf f (xs ++ ((a ∷ []) ++ zs)) % M ≢ weighed digitOf f (xs ++ ((b ∷ []) ++ zs)) % M
   digit-changed t e =
       ne (same-digit a b da db
-      (t .tells (length zs) (digitOf a) (digitOf b) (digit-small a) (digit-small b) (simp one at (replaced f M xs (a ∷ []) (b ∷ []) zs refl e))))
+      (t .tells (length zs) (digitOf a) (digitOf b) (digit-small a) (digit-small b) (simp one at (replaced digitOf f M xs (a ∷ []) (b ∷ []) zs refl e))))
 
   -- two unequal neighbours swapped change the sum
-  pub neighbours-swapped : TellsNeighbours M f → weighed f (xs ++ ((a ∷ b ∷ []) ++ zs)) % M ≢ weighed f (xs ++ ((b ∷ a ∷ []) ++ zs)) % M
+  pub neighbours-swapped : TellsNeighbours M f → weighed digitOf f (xs ++ ((a ∷ b ∷ []) ++ zs)) % M ≢ weighed digitOf f (xs ++ ((b ∷ a ∷ []) ++ zs)) % M
   neighbours-swapped t e =
       ne (same-digit a b da db
-      (t .tells (length zs) (digitOf a) (digitOf b) (digit-small a) (digit-small b) (simp two at (replaced f M xs (a ∷ b ∷ []) (b ∷ a ∷ []) zs refl e))))
+      (t .tells (length zs) (digitOf a) (digitOf b) (digit-small a) (digit-small b) (simp two at (replaced digitOf f M xs (a ∷ b ∷ []) (b ∷ a ∷ []) zs refl e))))
 
 -- ---- modulus 11, over any weights
 
@@ -47,20 +47,24 @@ times-mod M w d =
     ap (λ (n : ℕ). n * d % M) (sym (div-add-mod' w M))
     ∙ rw (add-mul, mul-right-comm) (mul-add-mod-self-right (w / M * d) M (w % M * d))
 
-eleven-test : T (every 11 (λ r. eqb r 0 || every 10 (λ d. every 10 (λ e. apart d e (r * d % 11) (r * e % 11)))))
+eleven-test : T (every 11 (λ r. eqb r 0 || every 11 (λ d. every 11 (λ e. apart d e (r * d % 11) (r * e % 11)))))
 unfolding every
 eleven-test = tt
 
-eleven-tells : (w d e : ℕ) → w % 11 ≢ 0 → d ≤ 9 → e ≤ 9 → w * d % 11 ≡ w * e % 11 → d ≡ e
-eleven-tells w d e nz hd he q =
+-- both factors as their remainders
+product-mod : (w d : ℕ) → w * d % 11 ≡ w % 11 * (d % 11) % 11
+product-mod w d = times-mod 11 w d ∙ ap (λ (n : ℕ). n % 11) (mul-comm (w % 11) d) ∙ times-mod 11 d (w % 11) ∙ ap (λ (n : ℕ). n % 11) (mul-comm (d % 11) (w % 11))
+
+pub eleven-tells : (w d e : ℕ) → w % 11 ≢ 0 → w * d % 11 ≡ w * e % 11 → d % 11 ≡ e % 11
+eleven-tells w d e nz q =
     let r = w % 11 in
     let some : T (not (eqb r 0)) = not-T (eqb r 0) (λ t. nz (eqb→eq r 0 t)) in
     let here = or-left (eqb r 0) _ some (every-at 11 _ eleven-test r (mod-lt w (lit< tt))) in
-    apart-at d e _ _ (every-at 10 _ (every-at 10 _ here d (omega arith)) e (omega arith)) (sym (times-mod 11 w d) ∙ q ∙ times-mod 11 w e)
+    apart-at (d % 11) (e % 11) _ _ (every-at 11 _ (every-at 11 _ here (d % 11) (mod-lt d (lit< tt))) (e % 11) (mod-lt e (lit< tt))) (sym (product-mod w d) ∙ q ∙ product-mod w e)
 
 -- weights of which none is a multiple of 11 tell digits apart
 pub weights-tell : (w : ℕ → ℕ) → ((k : ℕ) → w k % 11 ≢ 0) → TellsDigits 11 (λ k d. w k * d)
-weights-tell w nz = record { tells = λ k d e hd he q. eleven-tells (w k) d e (nz k) hd he q }
+weights-tell w nz = record { tells = λ k d e hd he q. let r = eleven-tells (w k) d e (nz k) q in omega arith }
 
 swap-test : T (every 11 (λ r. every 11 (λ s. eqb r s || every 10 (λ d. every 10 (λ e. apart d e ((r * d + s * e) % 11) ((r * e + s * d) % 11))))))
 unfolding every
@@ -79,31 +83,40 @@ swap-tells v w d e ne hd he q =
 pub weights-tell-neighbours : (w : ℕ → ℕ) → ((k : ℕ) → w (suc k) % 11 ≢ w k % 11) → TellsNeighbours 11 (λ k d. w k * d)
 weights-tell-neighbours w ne = record { tells = λ k d e hd he q. swap-tells (w (suc k)) (w k) d e (ne k) hd he q }
 
--- ---- the two moduli
+-- ---- the moduli
 
 pub base-pos : (m : Modulus) → 0 < base m
 base-pos Ten = lit< tt
 base-pos Eleven = lit< tt
+base-pos PlainEleven = lit< tt
+base-pos LongEleven = lit< tt
 
--- the weights repeat after eight places
-pub counts-mod : (m : Modulus) (k l d : ℕ) → k % 8 ≡ l % 8 → counts m k d ≡ counts m l d
+-- a digit counts itself by itself
+pub value-digit : (m : Modulus) (b : ℕ) → Digit b → valueOf m b ≡ digitOf b
+value-digit Ten b d = refl
+value-digit Eleven b d = refl
+value-digit PlainEleven b d = rw (is-digit b d)
+value-digit LongEleven b d = refl
+
+-- the weights of modulus 10 repeat after two places
+ten-again : (k d : ℕ) → counts Ten k d ≡ counts Ten (k % 2) d
 unfolding counts
-counts-mod Ten k l d h = let h2 : k % 2 ≡ l % 2 = omega arith in rw h2
-counts-mod Eleven k l d h = rw h
+ten-again k d = rw (mod-mod k 2)
 
-ten-test : T (every 8 (λ k. every 10 (λ d. every 10 (λ e. apart d e (counts Ten k d % 10) (counts Ten k e % 10)))))
+ten-test : T (every 2 (λ k. every 10 (λ d. every 10 (λ e. apart d e (counts Ten k d % 10) (counts Ten k e % 10)))))
 unfolding every counts
 ten-test = tt
 
 ten-tells : (k d e : ℕ) → d ≤ 9 → e ≤ 9 → counts Ten k d % 10 ≡ counts Ten k e % 10 → d ≡ e
 ten-tells k d e hd he q =
-    let c : (x : ℕ) → counts Ten k x ≡ counts Ten (k % 8) x = λ x. counts-mod Ten k (k % 8) x (sym (mod-mod k 8)) in
-    apart-at d e _ _ (every-at 10 _ (every-at 10 _ (every-at 8 _ ten-test (k % 8) (mod-lt k (lit< tt))) d (omega arith)) e (omega arith)) (simp c at q)
+    apart-at d e _ _ (every-at 10 _ (every-at 10 _ (every-at 2 _ ten-test (k % 2) (mod-lt k (lit< tt))) d (omega arith)) e (omega arith)) (simp (ten-again k) at q)
 
-pub checks-tell : (m : Modulus) → TellsDigits (base m) (counts m)
+pub ten-tells-digits : TellsDigits 10 (counts Ten)
+ten-tells-digits = record { tells = ten-tells }
+
+pub eleven-tells-digits : TellsDigits 11 (counts Eleven)
 unfolding counts
-checks-tell Ten = record { tells = ten-tells }
-checks-tell Eleven = weights-tell (weight Eleven) (λ k. omega arith)
+eleven-tells-digits = weights-tell (weight Eleven) (λ k. omega arith)
 
 differ-test : T (every 8 (λ k. not (eqb (weight Eleven (suc k) % 11) (weight Eleven k % 11))))
 unfolding every
@@ -120,15 +133,19 @@ eleven-tells-neighbours = weights-tell-neighbours (weight Eleven) neighbours-dif
 
 -- ---- what a check digit says of the remainder
 
--- it gives the remainder back, except 1 by modulus 11
+-- it gives the remainder back, except 1 by modulus 11, and 0 by the plain ones
 abbrev pub blind : Modulus → ℕ → Bool
 blind Ten x = false
 blind Eleven x = eqb x 1
+blind PlainEleven x = eqb x 0
+blind LongEleven x = eqb x 0
 
 firm-test : (m : Modulus) → T (every (base m) (λ r. every (base m) (λ s. blind m (lift m r) || apart r s (lift m r) (lift m s))))
 unfolding every lift
 firm-test Ten = tt
 firm-test Eleven = tt
+firm-test PlainEleven = tt
+firm-test LongEleven = tt
 
 pub firm : (m : Modulus) (r s : ℕ) → r < base m → s < base m → T (not (blind m (lift m r))) → lift m r ≡ lift m s → r ≡ s
 firm m r s hr hs f q =
@@ -139,6 +156,8 @@ lift-test : (m : Modulus) → T (every (base m) (λ r. leb (lift m r) 9))
 unfolding every lift
 lift-test Ten = tt
 lift-test Eleven = tt
+lift-test PlainEleven = tt
+lift-test LongEleven = tt
 
 pub lift-small : (m : Modulus) (r : ℕ) → r < base m → lift m r ≤ 9
 lift-small m r h = leb→le (lift m r) 9 (every-at (base m) _ (lift-test m) r h)

@@ -159,7 +159,7 @@ pub number-turn : (n i : ℕ) (s : List ℕ) → i < length s →
     n * 10 ^ (length s - i) + number (drop i s) ≡ (n * 10 + digitOf (getD s i 0)) * 10 ^ (length s - suc i) + number (drop (suc i) s)
 number-turn n i s h =
     let left : length s - i ≡ suc (length s - suc i) = omega arith in
-    rw (weighed-drop (λ k d. d * 10 ^ k) s i h, left, pow-succ', add-mul, mul-assoc) (omega arith)
+    rw (weighed-drop digitOf (λ k d. d * 10 ^ k) s i h, left, pow-succ', add-mul, mul-assoc) (omega arith)
 
 -- bytes of a width spell a number of no more digits
 pub value-lt : (w : ℕ) (bs : List ℕ) → length bs ≤ w → value bs < 10 ^ w

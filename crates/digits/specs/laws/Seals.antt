@@ -1,5 +1,5 @@
 -- Strings with a check digit in them: a part replaced breaks the seal unless both parts count the same.
--- Over any length, any place of the check digit and both moduli. Assumes nothing.
+-- Over any length, any place of the check digit and every modulus. Assumes nothing.
 use mathlib.Core.Path.{_≡_, refl, sym, ap, _∙_, subst}
 use mathlib.Core.Logic.{_≢_, _⊎_, inl, inr}
 use mathlib.Core.Bool.{not}
@@ -13,12 +13,12 @@ use lib.Seq.{length-take-le, split-at, set-split, getD-set-same, take-set-le, dr
 use lib.Dec.{T}
 use Rattle.digits.specs.Digits.{digitOf, digitByte, weighed}
 use Rattle.digits.specs.inner.Steps.{behind}
-use Rattle.digits.specs.Checks.{base, counts, checkDigit}
+use Rattle.digits.specs.Checks.{base, valueOf, counts, checkDigit}
 use Rattle.digits.specs.declared.sealing.Modulus.{Modulus}
 use Rattle.digits.specs.declared.sealing.Modulus.the-variants.{Eleven}
 use Rattle.digits.specs.laws.Strings.{Digit, digit-small, same-digit}
 use Rattle.digits.specs.laws.Sums.{replaced, one, two}
-use Rattle.digits.specs.laws.Moduli.{base-pos, checks-tell, eleven-tells-neighbours, firm, blind, lift-small}
+use Rattle.digits.specs.laws.Moduli.{TellsDigits, base-pos, value-digit, eleven-tells-neighbours, firm, blind, lift-small}
 
 -- all bytes but the one at index p
 abbrev pub out : ℕ → List ℕ → List ℕ
@@ -48,17 +48,17 @@ out-right (x ∷ xs) ys (suc p) h =
 module _ (m : Modulus) (ys ys′ : List ℕ) (e : length ys ≡ length ys′) where
   -- one check digit of two strings that differ in a part: the parts count the same
   counted : (xs zs : List ℕ) (x : ℕ) → x ≡ digitByte (checkDigit m (xs ++ (ys ++ zs))) → x ≡ digitByte (checkDigit m (xs ++ (ys′ ++ zs))) → T (not (blind m (x - 48))) →
-      weighed (behind (length zs) (counts m)) ys % base m ≡ weighed (behind (length zs) (counts m)) ys′ % base m
+      weighed (valueOf m) (behind (length zs) (counts m)) ys % base m ≡ weighed (valueOf m) (behind (length zs) (counts m)) ys′ % base m
   unfolding checkDigit
   counted xs zs x s s′ f =
       let value : x - 48 ≡ checkDigit m (xs ++ (ys ++ zs)) = omega arith in
-      replaced (counts m) (base m) xs ys ys′ zs e
+      replaced (valueOf m) (counts m) (base m) xs ys ys′ zs e
       (firm m _ _ (mod-lt _ (base-pos m)) (mod-lt _ (base-pos m)) (rw value at f) (omega arith))
 
   -- two sealed strings that differ in a part before or behind the check digit at p
   parts : (xs zs : List ℕ) (p : ℕ) → (p < length xs) ⊎ (length xs + length ys ≤ p) → Sealed m p (xs ++ (ys ++ zs)) → Sealed m p (xs ++ (ys′ ++ zs)) →
       T (not (blind m (getD (xs ++ (ys ++ zs)) p 0 - 48))) →
-      (n : ℕ) × (weighed (behind n (counts m)) ys % base m ≡ weighed (behind n (counts m)) ys′ % base m)
+      (n : ℕ) × (weighed (valueOf m) (behind n (counts m)) ys % base m ≡ weighed (valueOf m) (behind n (counts m)) ys′ % base m)
   parts xs zs p (inl h) s s′ f =
       let l = out-left xs (ys ++ zs) p h in
       let l′ = out-left xs (ys′ ++ zs) p h in
@@ -77,14 +77,14 @@ module _ (m : Modulus) (bs : List ℕ) (p i v : ℕ) (hp : p < length bs) (hi : 
       let o : out p (set bs i v) ≡ out p bs = rw (take-set-le p bs i v (omega arith), drop-set-lt (suc p) bs i v (omega arith)) in
       sym (getD-set-same bs i v 0 hi) ∙ ap (λ (k : ℕ). getD (set bs i v) k 0) e ∙ s′ ∙ ap (λ (l : List ℕ). digitByte (checkDigit m l)) o ∙ sym s ∙ ap (λ (k : ℕ). getD bs k 0) (sym e)
 
-  module _ (d : Digit (getD bs i 0)) (d′ : Digit v) where
+  module _ (t : TellsDigits (base m) (counts m)) (d : Digit (getD bs i 0)) (d′ : Digit v) where
     -- another digit
     beside : (p < length (take i bs)) ⊎ (length (take i bs) + 1 ≤ p) → T (not (blind m (getD bs p 0 - 48))) → v ≡ getD bs i 0
     beside w f =
         let was = split-at bs i 0 hi in
         let r = parts m (getD bs i 0 ∷ []) (v ∷ []) refl (take i bs) (drop (suc i) bs) p w (subst (Sealed m p) was s) (subst (Sealed m p) (set-split bs i v hi) s′)
         (subst (λ (l : List ℕ). T (not (blind m (getD l p 0 - 48)))) was f) in
-        sym (same-digit (getD bs i 0) v d d′ (checks-tell m .tells (r .0) (digitOf (getD bs i 0)) (digitOf v) (digit-small (getD bs i 0)) (digit-small v) (simp one at (r .1))))
+        sym (same-digit (getD bs i 0) v d d′ (t .tells (r .0) (digitOf (getD bs i 0)) (digitOf v) (digit-small (getD bs i 0)) (digit-small v) (simp (one, value-digit m _ d, value-digit m _ d′) at (r .1))))
 
     pub one-change : (i ≢ p → T (not (blind m (getD bs p 0 - 48)))) → v ≡ getD bs i 0
     one-change f = go (ℕ-discrete i p) (decLt p i)

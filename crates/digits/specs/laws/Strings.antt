@@ -1,6 +1,6 @@
 -- Digit strings: all digits, their parts, and a string written out. Assumes nothing.
 use mathlib.Core.Path.{_≡_, refl, sym, ap, _∙_, subst}
-use mathlib.Core.Bool.{Bool, true, false, cond, _&&_}
+use mathlib.Core.Bool.{Bool, true, false, cond, _&&_, _||_, and-eq-true-iff}
 use mathlib.Core.List.{List, [], _∷_, _++_}
 use Prim.Native.Nat.{ℕ, zero, suc, _+_, _-_, _<_, _≤_, zero-le, suc-le-suc}
 use native.Mathlib.Nat.{le-of-suc-le-suc, not-suc-le-zero, sub-zero, suc-sub-suc}
@@ -9,7 +9,7 @@ use lib.ListN.{length, getD, take, drop, set}
 use lib.Seq.{getD-take, getD-drop, drop-cons, drop-set-add, take-set-lt, take-set-le}
 use lib.Dec.{T, leb, eqb, eqb·suc-suc, leb→le}
 use borrow.Author.Tests.{le-leb, ne-eqb}
-use Rattle.digits.specs.Digits.{digit?, digitOf, leading, allDigits}
+use Rattle.digits.specs.Digits.{digit?, letter?, character?, digitOf, leading, allDigits, everyByte, allCharacters}
 use Rattle.digits.specs.laws.Tests.{both}
 
 -- ---- one byte
@@ -120,6 +120,46 @@ pub digits-take : (n : ℕ) {bs : List ℕ} → Digits bs → Digits (take n bs)
 digits-take zero ds = digits-nil
 digits-take (suc n) {bs = []} ds = ds
 digits-take (suc n) {bs = b ∷ bs} ds = digits-cons (head ds) (digits-take n (rest ds))
+
+-- one byte stored
+pub digits-set : {bs : List ℕ} (i v : ℕ) → Digits bs → Digit v → Digits (set bs i v)
+digits-set {bs = []} i v ds d = ds
+digits-set {bs = b ∷ bs} zero v ds d = digits-cons d (rest ds)
+digits-set {bs = b ∷ bs} (suc i) v ds d = digits-cons (head ds) (digits-set i v (rest ds) d)
+
+-- ---- digits and capital letters
+
+pub character-is : (b : ℕ) → character? b ≡ true → (48 ≤ b) × (b ≤ 90)
+character-is b q = go (digit? b) (letter? b) refl refl q
+  where
+    go : (d l : Bool) → digit? b ≡ d → letter? b ≡ l → (d || l) ≡ true → (48 ≤ b) × (b ≤ 90)
+    go true l p q e = let d = digit-is b p in (d .0, omega arith)
+    go false true p q e = let t = both (leb 65 b) (leb b 90) (subst T (sym q) tt) in (omega (arith, leb→le 65 b (t .0)), leb→le b 90 (t .1))
+    go false false p q e = absurd (subst T (sym e) tt)
+
+-- a turn of a loop that only tests
+pub every-turn : (test : ℕ → Bool) (s : List ℕ) (i : ℕ) → i < length s → everyByte test (drop i s) ≡ test (getD s i 0) && everyByte test (drop (suc i) s)
+unfolding everyByte
+every-turn test s i h = rw (drop-cons s i 0 h)
+
+-- a byte stored that passes
+pub every-set : (test : ℕ → Bool) (bs : List ℕ) (i v : ℕ) → everyByte test bs ≡ true → test v ≡ true → everyByte test (set bs i v) ≡ true
+unfolding everyByte
+every-set test [] i v e c = refl
+every-set test (b ∷ bs) zero v e c = rw (c, and-eq-true-iff (test b) (everyByte test bs) .0 e .1)
+every-set test (b ∷ bs) (suc i) v e c =
+    let t = and-eq-true-iff (test b) (everyByte test bs) .0 e in
+    rw (t .0, every-set test bs i v (t .1) c)
+
+-- digits are characters
+pub digits-characters : (bs : List ℕ) → allDigits bs ≡ true → allCharacters bs ≡ true
+unfolding leading everyByte
+digits-characters [] e = refl
+digits-characters (b ∷ bs) e = go (digit? b) refl (digits-characters bs) (rw (all-cons b bs) at e)
+  where
+    go : (t : Bool) → digit? b ≡ t → (allDigits bs ≡ true → allCharacters bs ≡ true) → t && allDigits bs ≡ true → character? b && allCharacters bs ≡ true
+    go true q others e = rw (q, others e)
+    go false q others e = absurd (subst T (sym e) tt)
 
 -- ---- a string written out: taking parts of it then computes
 

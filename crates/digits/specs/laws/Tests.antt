@@ -1,5 +1,6 @@
 -- Tests that antt computes, and the facts that they give. Assumes nothing.
 use mathlib.Core.Path.{refl, _≡_}
+use mathlib.Core.Logic.{_≢_}
 use mathlib.Core.Bool.{Bool, true, false, not, _&&_, _||_}
 use Prim.Native.Nat.{ℕ, zero, suc, _<_}
 use native.Mathlib.Nat.{le-of-suc-le-suc, not-suc-le-zero}
@@ -10,6 +11,15 @@ use borrow.Author.Tests.{eq-eqb}
 unfoldable pub every : ℕ → (ℕ → Bool) → Bool
 every zero p = true
 every (suc n) p = p 0 && every n (λ k. p (suc k))
+
+-- a test that holds is true, and one that isn't true is false
+pub so : (b : Bool) → T b → b ≡ true
+so true t = refl
+so false t = absurd t
+
+pub not-so : (b : Bool) → b ≢ true → b ≡ false
+not-so true f = absurd (f refl)
+not-so false f = refl
 
 pub both : (a b : Bool) → T (a && b) → T a × T b
 both true b t = (tt, t)

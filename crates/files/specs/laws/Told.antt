@@ -7,6 +7,7 @@ use Prim.Native.Nat.{ℕ, _*_, _≤_, _<_}
 use native.Mathlib.Omega.{arith}
 use lib.ListN.{length, take, drop, length-append}
 use lib.Seq.{length-take-le, take-all, take-append-le}
+use lib.Dec.{T}
 use Rattle.answer.specs.Rules.{refusal}
 use Rattle.answer.specs.declared.Refusal.{Refusal}
 use Rattle.answer.specs.declared.Answer.{Answer}
@@ -15,7 +16,7 @@ use Rattle.checker.specs.Order.{ended}
 use Rattle.checker.specs.Line.{lineBytes}
 use Rattle.checker.specs.Machine.{start, lineOf, stepOf}
 use Rattle.checker.specs.Calls.{Reached, at-start, after-line, Through, here, further}
-use Rattle.checker.specs.laws.Listed.{lastNumber, line-listed, broken-listed}
+use Rattle.checker.specs.laws.Listed.{numbered, line-listed, broken-listed}
 use Rattle.checker.specs.laws.Meaning.{Breaks, line-accepted, line-refused, refused-leaves, kept-line, whole-number}
 use Rattle.checker.specs.laws.Reached.{reached}
 use Rattle.checker.specs.declared.Checker.{Checker}
@@ -217,14 +218,14 @@ part-line bytes r e =
 
 -- ---- the numbers: 1 and 2 are never told before the end
 
-pub part-number : (bytes : List ℕ) (r : Refusal) → arrived bytes .status ≡ Refused r → (3 ≤ r .number) × (r .number ≤ lastNumber)
+pub part-number : (bytes : List ℕ) (r : Refusal) → arrived bytes .status ≡ Refused r → (3 ≤ r .number) × T (numbered (r .number))
 part-number bytes r e = go (refused-exactly bytes r .0 e)
   where
-    go : Stops start bytes r → (3 ≤ r .number) × (r .number ≤ lastNumber)
+    go : Stops start bytes r → (3 ≤ r .number) × T (numbered (r .number))
     go (whole-line {t} earlier line later q on long going b) =
         let h = whole-number t line r long going b in
-        (omega arith, broken-listed (line-listed t line) (b .broken) .high)
-    go (behind-end earlier b later q on at same) = rw same (omega arith, omega arith)
+        (omega arith, broken-listed (line-listed t line) (b .broken) .is-among)
+    go (behind-end earlier b later q on at same) = rw same (omega arith, tt)
 
 -- ---- what waits is less than a line
 

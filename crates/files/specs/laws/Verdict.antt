@@ -6,6 +6,7 @@ use mathlib.Core.List.{List, [], _∷_, _++_}
 use Prim.Native.Nat.{ℕ, suc, _+_, _≤_}
 use native.Mathlib.Omega.{arith}
 use lib.ListN.{length}
+use lib.Dec.{T}
 use Rattle.answer.specs.Rules.{AllKept, refusal}
 use Rattle.answer.specs.declared.Refusal.{Refusal}
 use Rattle.answer.specs.declared.Answer.{Answer}
@@ -23,7 +24,7 @@ use Rattle.checker.specs.declared.Stepped.{Stepped}
 use Rattle.files.specs.declared.whole.Outcome.{Outcome}
 use Rattle.files.specs.declared.whole.Outcome.the-variants.{Accepted, Refused}
 use Rattle.checker.specs.laws.Sums.{next-counts}
-use Rattle.checker.specs.laws.Listed.{lastNumber, line-listed, broken-listed}
+use Rattle.checker.specs.laws.Listed.{numbered, line-listed, broken-listed}
 use Rattle.checker.specs.laws.Meaning.{Breaks, line-accepted, line-refused, kept-line, line-moves}
 use Rattle.checker.specs.laws.Reached.{reached}
 use Rattle.files.specs.laws.Apart.{accepted-refused}
@@ -149,9 +150,9 @@ line-named on = omega (arith, through-line-no at-start on)
 
 -- ---- the number that a file is refused with
 
-pub file-number : (file : List ℕ) (r : Refusal) → checkFile file ≡ Refused r → (1 ≤ r .number) × (r .number ≤ lastNumber)
+pub file-number : (file : List ℕ) (r : Refusal) → checkFile file ≡ Refused r → (1 ≤ r .number) × T (numbered (r .number))
 file-number file r e = go (refused-file file r .0 e)
   where
-    go : Stopped start (linesOf file) r → (1 ≤ r .number) × (r .number ≤ lastNumber)
-    go (at-line {t} earlier later l p on b) = let h = broken-listed (line-listed t l) (b .broken) in (h .low, h .high)
-    go (at-end on lacks q) = rw q (omega arith)
+    go : Stopped start (linesOf file) r → (1 ≤ r .number) × T (numbered (r .number))
+    go (at-line {t} earlier later l p on b) = let h = broken-listed (line-listed t l) (b .broken) in (h .low, h .is-among)
+    go (at-end on lacks q) = rw q (omega arith, tt)

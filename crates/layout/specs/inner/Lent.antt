@@ -7,6 +7,7 @@ use lib.Dec.{leb, ltb, eqb}
 use lib.ListN.{length, getD, take}
 use Rattle.digits.specs.Digits.{digitByte}
 use Rattle.digits.specs.laws.Strings.{tab}
+use Rattle.ids.specs.Ids.{cnpjCharacters}
 use Rattle.layout.specs.Field.{Kind, N, NOrBlank, Id, T, F, D, Time, K, O, Zeros, Exact, OneOf, Service, Form, Barcode, RecordType, Segment, Field}
 use Rattle.layout.specs.Table.{fieldsOf, zeroOneTwo, zeroNine, oneTwo, exactC, exact09, exact52, fieldsOfEach, all}
 use Rattle.layout.specs.Records.{code, records}
@@ -70,11 +71,11 @@ mark? n = leb firstMark n && leb n lastMark
 abbrev pub kindOf : ℕ → Kind
 kindOf n = cond (mark? n) (cond (ltb n firstLetter) (RecordType n) (Segment n)) (getD kinds n F)
 
--- a width that a field of a kind may have: exact content has one width, and a domain is of one byte
+-- a width that a field of a kind may have: a registration number has room for a CNPJ, exact content has one width, and a domain is of one byte
 abbrev pub mayBe : Kind → ℕ → Bool
 mayBe N w = true
 mayBe NOrBlank w = true
-mayBe Id w = true
+mayBe Id w = leb cnpjCharacters w
 mayBe T w = true
 mayBe F w = true
 mayBe D w = true

@@ -19,10 +19,6 @@ use Rattle.layout.specs.declared.fixed.Content.the-variants.{Run, Letter
 use Rattle.layout.specs.declared.kinds.Fill.{Fill}
 use Rattle.layout.specs.declared.kinds.Fill.the-variants.{Number, Text, Fixed}
 
-pub so : (b : Bool) → T b → b ≡ true
-so true t = refl
-so false t = absurd t
-
 -- ---- bytes given by their places
 
 -- there are as many

@@ -1,12 +1,18 @@
 -- Files that are accepted, computed: the paper's own of one credit of 100.00, a return of both kinds of batch, with Z, and that
 -- return with payments withdrawn. Assumes nothing.
 use mathlib.Core.Path.{_≡_, refl}
+use mathlib.Core.Bool.{Bool, true, false, _&&_}
 use mathlib.Core.List.{List, _++_}
-use Prim.Native.Nat.{ℕ}
+use Prim.Native.Nat.{ℕ, _+_, _-_, _*_}
+use Prim.Native.String.{String}
+use lib.Dec.{eqb}
+use lib.ListN.{length, take, drop}
 use Rattle.answer.specs.Rules.{firstBroken}
-use Rattle.digits.specs.Digits.{digitByte, leading, weighed}
+use Rattle.answer.specs.declared.Refusal.{Refusal}
+use Rattle.digits.specs.Digits.{bytes, digitByte, leading, everyByte, weighed}
 use Rattle.digits.specs.Numbers.{numberOf}
 use Rattle.digits.specs.Checks.{counts, lift, checkDigit}
+use Rattle.ids.specs.Ids.{charactersFit, idFits}
 use Rattle.calendar.specs.Calendar.{exists, dateFits, timeFits}
 use Rattle.calendar.specs.Due.{daysOfYears, dayNumber, dueDays, folded, factorOf}
 use Rattle.layout.specs.Kinds.{same}
@@ -14,12 +20,26 @@ use Rattle.layout.specs.Pairs.{batchOf}
 use Rattle.layout.specs.Record.{rulesOf, clean}
 use Rattle.layout.specs.Table.{fieldsOf, movementField}
 use Rattle.checker.specs.Totals.{tally, noPayments, live, withdrawn, totals, add, withdrawal}
-use Rattle.checker.specs.Line.{lineFrom, within, boletoRules, rulesOfType, rulesAs, typeRules, lineRules, rulesOfLine}
+use Rattle.checker.specs.Line.{lineBytes, lineFrom, within, boletoRules, rulesOfType, rulesAs, typeRules, lineRules, rulesOfLine}
 use Rattle.checker.specs.Machine.{sound, stepOf}
 use Rattle.files.specs.File.{cut, steps, endOf, finish, checkFile}
-use Rattle.files.specs.declared.whole.Outcome.the-variants.{Accepted}
-use Rattle.layout.specs.Examples.{bytes}
+use Rattle.files.specs.declared.whole.Outcome.{Outcome}
+use Rattle.files.specs.declared.whole.Outcome.the-variants.{Accepted, Refused}
 use Rattle.promises.specs.Guarded.{changed}
+
+abbrev pub isAccepted : Outcome → Bool
+isAccepted (Accepted t) = true
+isAccepted (Refused r) = false
+
+-- a refusal with this number, at this line and place
+abbrev pub isAt : ℕ → ℕ → ℕ → Refusal → Bool
+isAt n line place r = eqb (r .number) n && (eqb (r .line .0) line && eqb (r .place) place)
+
+-- a text over the bytes of a line, counted from 0, from a place on
+abbrev pub overwritten : List ℕ → ℕ → ℕ → String → List ℕ
+overwritten file line place s =
+    let start = line * lineBytes + (place - 1) in
+    take start file ++ bytes s ++ drop (start + length (bytes s)) file
 
 abbrev pub creditFile : List ℕ
 creditFile =
@@ -31,7 +51,7 @@ creditFile =
     ++ lineFrom (bytes "08599999         000001000006000000                                                                                                                                                                                                             ")
 
 pub credit-file : checkFile creditFile ≡ Accepted (totals 1 6 (live (tally 1 10000)) (withdrawn noPayments))
-unfolding firstBroken leading weighed numberOf exists dateFits timeFits same batchOf rulesOf clean fieldsOf cut steps endOf finish within rulesOfType rulesAs typeRules lineRules rulesOfLine sound stepOf add
+unfolding firstBroken leading everyByte weighed counts lift checkDigit charactersFit idFits numberOf exists dateFits timeFits same batchOf rulesOf clean fieldsOf cut steps endOf finish within rulesOfType rulesAs typeRules lineRules rulesOfLine sound stepOf add
 credit-file = refl
 
 abbrev pub returnFile : List ℕ
@@ -54,7 +74,7 @@ returnFile =
     ++ lineFrom (bytes "08599999         000002000016000000                                                                                                                                                                                                             ")
 
 pub return-file : checkFile returnFile ≡ Accepted (totals 2 16 (live (tally 4 476150)) (withdrawn noPayments))
-unfolding firstBroken leading weighed counts lift checkDigit numberOf exists dateFits timeFits daysOfYears dayNumber dueDays folded factorOf same batchOf rulesOf clean fieldsOf cut steps endOf finish within boletoRules rulesOfType rulesAs typeRules lineRules rulesOfLine sound stepOf add
+unfolding firstBroken leading everyByte weighed counts lift checkDigit charactersFit idFits numberOf exists dateFits timeFits daysOfYears dayNumber dueDays folded factorOf same batchOf rulesOf clean fieldsOf cut steps endOf finish within boletoRules rulesOfType rulesAs typeRules lineRules rulesOfLine sound stepOf add
 return-file = refl
 
 -- the same file with its second credit and its second boleto withdrawn (lines counted from 0): the trailers stay as they are
@@ -62,5 +82,5 @@ abbrev pub withdrawnFile : List ℕ
 withdrawnFile = changed (changed returnFile 5 (movementField .from) (digitByte withdrawal)) 11 (movementField .from) (digitByte withdrawal)
 
 pub withdrawn-file : checkFile withdrawnFile ≡ Accepted (totals 2 16 (live (tally 2 364725)) (withdrawn (tally 2 111425)))
-unfolding firstBroken leading weighed counts lift checkDigit numberOf exists dateFits timeFits daysOfYears dayNumber dueDays folded factorOf same batchOf rulesOf clean fieldsOf cut steps endOf finish within boletoRules rulesOfType rulesAs typeRules lineRules rulesOfLine sound stepOf add
+unfolding firstBroken leading everyByte weighed counts lift checkDigit charactersFit idFits numberOf exists dateFits timeFits daysOfYears dayNumber dueDays folded factorOf same batchOf rulesOf clean fieldsOf cut steps endOf finish within boletoRules rulesOfType rulesAs typeRules lineRules rulesOfLine sound stepOf add
 withdrawn-file = refl

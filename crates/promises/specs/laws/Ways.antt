@@ -6,9 +6,10 @@ use native.Mathlib.Omega.{arith}
 use lib.Dec.{lit≤}
 use lib.ListN.{length, getD}
 use Rattle.answer.specs.Rules.{firstBroken}
-use Rattle.digits.specs.Digits.{digitByte, place, leading, weighed}
+use Rattle.digits.specs.Digits.{digitByte, place, leading, everyByte, weighed}
 use Rattle.digits.specs.Numbers.{numberOf}
 use Rattle.digits.specs.Checks.{counts, lift, checkDigit}
+use Rattle.ids.specs.Ids.{charactersFit, idFits}
 use Rattle.calendar.specs.Calendar.{exists, dateFits, timeFits}
 use Rattle.calendar.specs.Due.{daysOfYears, dayNumber, dueDays, folded, factorOf}
 use Rattle.boleto.specs.Guarded.{GuardedInBarcode}
@@ -99,7 +100,7 @@ check-of-9 = refl
 
 -- the table: for each way a file, a line, a place and the record that the line is read as
 pub every-way : (way : Way) → Witness way
-unfolding firstBroken leading weighed counts lift checkDigit numberOf exists dateFits timeFits daysOfYears dayNumber dueDays folded factorOf same batchOf rulesOf clean fieldsOf cut within boletoRules rulesOfType rulesAs typeRules lineRules rulesOfLine sound stepOf add left
+unfolding firstBroken leading everyByte weighed counts lift checkDigit charactersFit idFits numberOf exists dateFits timeFits daysOfYears dayNumber dueDays folded factorOf same batchOf rulesOf clean fieldsOf cut within boletoRules rulesOfType rulesAs typeRules lineRules rulesOfLine sound stepOf add left
 every-way line-end = in-file returnFile return-file 13 242 SegmentZ refl (lit≤ tt) (guarded.line-end (lit≤ tt, lit≤ tt))
 every-way first-eight = in-file returnFile return-file 12 1 SegmentJ52 refl (lit≤ tt) (guarded.first-eight (lit≤ tt, lit≤ tt))
 every-way detail = in-file returnFile return-file 4 14 SegmentZ refl (lit≤ tt) (guarded.detail refl (lit≤ tt, lit≤ tt))

@@ -1,15 +1,17 @@
 -- Files that are written, computed: the paper's own of one credit of 100.00, from five calls with its fields as a caller has them; and the same, in
 -- both directions, with each of A's two numbers that may be not given. Assumes nothing.
 use mathlib.Core.Path.{_≡_, refl}
-use mathlib.Core.Bool.{Bool, true, false, _&&_}
+use mathlib.Core.Bool.{Bool, true, _&&_}
 use mathlib.Core.List.{List, [], _∷_, _++_, flatten}
-use Prim.Native.Nat.{ℕ, _+_, _-_, _*_}
+use Prim.Native.Nat.{ℕ, _*_}
 use Prim.Native.String.{String}
 use lib.Dec.{T}
-use lib.ListN.{length, take, drop, replicate}
+use lib.ListN.{replicate}
 use Rattle.answer.specs.Rules.{firstBroken}
 use Rattle.answer.specs.Output.{over}
-use Rattle.digits.specs.Digits.{digitByte, leading, weighed}
+use Rattle.digits.specs.Digits.{bytes, digitByte, leading, everyByte, weighed}
+use Rattle.digits.specs.Checks.{counts, lift, checkDigit}
+use Rattle.ids.specs.Ids.{charactersFit, idFits}
 use Rattle.digits.specs.Numbers.{numberOf, lastDigits, numeral}
 use Rattle.calendar.specs.Calendar.{exists, dateFits, timeFits}
 use Rattle.layout.specs.Kinds.{same}
@@ -26,16 +28,13 @@ use Rattle.checker.specs.Totals.{add}
 use Rattle.checker.specs.Line.{lineBytes, within, boletoRules, rulesOfType, rulesAs, typeRules, lineRules, rulesOfLine}
 use Rattle.checker.specs.Machine.{sound, stepOf}
 use Rattle.files.specs.File.{cut, steps, endOf, finish, checkFile}
-use Rattle.files.specs.declared.whole.Outcome.{Outcome}
-use Rattle.files.specs.declared.whole.Outcome.the-variants.{Accepted, Refused}
 use Rattle.writer.specs.Given.{Call, openFile, openBatch, pay, closeBatch, closeFile, two}
 use Rattle.filling.specs.Filling.{filled}
 use Rattle.writer.specs.Refusals.{allGiven, givenRules, held, callRules}
 use Rattle.writer.specs.Outcome.{newWriter, linesFor, behindAll, answerOf}
 use Rattle.writer.specs.Calls.{memory}
-use Rattle.layout.specs.Examples.{bytes}
 use Rattle.promises.specs.Guarded.{changed}
-use Rattle.promises.specs.laws.AcceptedFiles.{creditFile}
+use Rattle.promises.specs.laws.AcceptedFiles.{isAccepted, overwritten, creditFile}
 
 -- a field that the caller gives, by its first place: its number, or its text; or says that it is not given
 pub data Entry : Type 0 where
@@ -97,17 +96,14 @@ abbrev pub creditWritten : ℕ → List Entry → List ℕ
 creditWritten direction more = memory newWriter (creditCalls direction more) (replicate (6 * lineBytes) 0)
 
 pub credit-written : creditWritten 1 [] ≡ creditFile
-unfolding entered before indexOf firstBroken over leading weighed numberOf lastDigits numeral exists dateFits timeFits same batchOf rulesOf clean fieldsOf joined recordOf add boletoRules sound filled givenRules allGiven held callRules linesFor behindAll answerOf memory flatten
+unfolding entered before indexOf firstBroken over leading everyByte weighed counts lift checkDigit charactersFit idFits numberOf lastDigits numeral exists dateFits timeFits same batchOf rulesOf clean fieldsOf joined recordOf add boletoRules sound filled givenRules allGiven held callRules linesFor behindAll answerOf memory flatten
 credit-written = refl
 
 -- ---- numbers that are not given: when the bank paid the credit, and how much
 
 -- the bytes at the two fields of the third line, of the file header's direction
 abbrev pub paidAs : ℕ → String → List ℕ
-paidAs direction paid =
-    let file = changed creditFile 0 (directionField .from) (digitByte direction) in
-    let start = 2 * lineBytes + (paidDate .from - 1) in
-    take start file ++ bytes paid ++ drop (start + length (bytes paid)) file
+paidAs direction paid = overwritten (changed creditFile 0 (directionField .from) (digitByte direction)) 2 (paidDate .from) paid
 
 -- each of the two is given or not, for itself, and 0 is given; such a file is written, in both directions, and accepted
 pub record Paid : Type 0 where
@@ -127,10 +123,6 @@ combinations =
     ∷ row (absent 155 ∷ number 163 0 ∷ []) "        000000000000000"
     ∷ []
 
-abbrev pub isAccepted : Outcome → Bool
-isAccepted (Accepted t) = true
-isAccepted (Refused r) = false
-
 abbrev pub writesIt : ℕ → Paid → Bool
 writesIt direction x = same (creditWritten direction (x .given)) (paidAs direction (x .paid)) && isAccepted (checkFile (paidAs direction (x .paid)))
 
@@ -139,5 +131,5 @@ every [] = true
 every (x ∷ xs) = writesIt 1 x && (writesIt 2 x && every xs)
 
 pub absent-written : T (every combinations)
-unfolding combinations entered before indexOf firstBroken over leading weighed numberOf lastDigits numeral exists dateFits timeFits same batchOf rulesOf clean fieldsOf joined recordOf add boletoRules sound filled givenRules allGiven held callRules linesFor behindAll answerOf memory flatten cut steps endOf finish within rulesOfType rulesAs typeRules lineRules rulesOfLine stepOf
+unfolding combinations entered before indexOf firstBroken over leading everyByte weighed counts lift checkDigit charactersFit idFits numberOf lastDigits numeral exists dateFits timeFits same batchOf rulesOf clean fieldsOf joined recordOf add boletoRules sound filled givenRules allGiven held callRules linesFor behindAll answerOf memory flatten cut steps endOf finish within rulesOfType rulesAs typeRules lineRules rulesOfLine stepOf
 absent-written = tt

@@ -9,7 +9,9 @@ use lib.Seq.{getD-take, getD-drop}
 use Rattle.answer.specs.Rules.{firstBroken}
 use Rattle.answer.specs.declared.Answer.{Answer}
 use Rattle.answer.specs.declared.Answer.the-variants.{Accepted}
-use Rattle.digits.specs.Digits.{digitByte, leading, weighed}
+use Rattle.digits.specs.Digits.{digitByte, leading, everyByte, weighed}
+use Rattle.digits.specs.Checks.{counts, lift, checkDigit}
+use Rattle.ids.specs.Ids.{charactersFit, idFits}
 use Rattle.digits.specs.Numbers.{numberOf, numeral, lastDigits}
 use Rattle.calendar.specs.Calendar.{exists, dateFits, timeFits}
 use Rattle.layout.specs.Kinds.{run, same}
@@ -148,7 +150,7 @@ record Computed : Type 0 where
   twice-fifth : getD (fileOf (lentFirst paidTwice (fresh 6))) (4 * lineBytes) 0 ≡ digitByte 0
 
 computed : Computed
-unfolding flatten rightAnswers before indexOf written linesFor behindAll lentOn answerOf callRules held allGiven givenRules fieldsIn joined recordOf filled numeral lastDigits firstBroken leading weighed numberOf exists dateFits timeFits same batchOf rulesOf clean fieldsOf boletoRules sound add
+unfolding flatten rightAnswers before indexOf written linesFor behindAll lentOn answerOf callRules held allGiven givenRules fieldsIn joined recordOf filled numeral lastDigits firstBroken leading everyByte weighed counts lift checkDigit charactersFit idFits numberOf exists dateFits timeFits same batchOf rulesOf clean fieldsOf boletoRules sound add
 computed = record { answers = refl; opened-long = refl; opened-first = refl; paid-long = refl; twice-long = refl; twice-fifth = refl }
 
 -- ---- the wrong writers

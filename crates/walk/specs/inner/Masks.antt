@@ -18,7 +18,7 @@ use Rattle.layout.specs.declared.Direction.{Direction}
 use Rattle.layout.specs.declared.Direction.the-variants.{Remittance, Return}
 
 -- at each place of a field, counted from 0; and whether all bytes between the two keep the field's rules, as digits keep those of a number that may be
--- not given
+-- not given, and of a registration number
 pub record Mask : Type 0 where
   pub low : ℕ → ℕ
   pub high : Direction → ℕ → ℕ

@@ -8,7 +8,7 @@ use native.Mathlib.Numerals.{add-one}
 use native.Mathlib.Decide.{decLt}
 use native.Mathlib.Omega.{arith}
 use borrow.Author.Tests.{leb-true, eq-eqb, eqb-false}
-use lib.Dec.{T, leb, ltb, eqb, eqb→eq}
+use lib.Dec.{T, leb, ltb, eqb, eqb→eq, leb→le}
 use lib.ListN.{length, getD, take, drop, replicate, length-replicate, getD-replicate}
 use lib.Seq.{drop-cons, getD-drop, drop-drop, ext-getD}
 use Rattle.answer.specs.Rules.{rule, firstBroken}
@@ -16,15 +16,16 @@ use Rattle.answer.specs.laws.Order.{past, done}
 use Rattle.answer.specs.declared.Answer.the-variants.{Accepted}
 use Rattle.digits.specs.Digits.{allDigits}
 use Rattle.digits.specs.laws.Strings.{tab, all-leading}
-use Rattle.digits.specs.laws.Tests.{every, every-at}
+use Rattle.digits.specs.laws.Tests.{every, every-at, so}
+use Rattle.ids.specs.laws.Fields.{digits-fit}
 use Rattle.layout.specs.inner.Lent.{startOf, kindCount, whole?, mark?, firstLetter, kindOf, mayBe}
 use Rattle.layout.specs.Pairs.{among}
 use Rattle.layout.specs.Field.{Kind, N, NOrBlank, Id, T as Text, F, D, Time, K, O, Zeros, Exact, OneOf, Service, Form, Barcode, RecordType, Segment, Field, none}
 use Rattle.layout.specs.Table.{fieldsOf, recordBytes, tiles, all}
-use Rattle.layout.specs.Kinds.{aPart, means, same, oneOf, blank}
+use Rattle.layout.specs.Kinds.{aPart, registrationAt, means, same, oneOf, blank}
 use Rattle.walk.specs.inner.Masks.{bytesFrom, maskOf, domainMask, highestIn, between, free, lowsOf, highsOf, within, Right}
 use Rattle.layout.specs.laws.Bytes.{and-left, and-right, same-self, same-true, length-places}
-use Rattle.layout.specs.laws.Contents.{so, other-kind}
+use Rattle.layout.specs.laws.Contents.{other-kind}
 use Rattle.layout.specs.laws.Tiling.{tiled, head, ends, All, at}
 use Rattle.layout.specs.laws.Sound.{width, Sound, sounds}
 use Rattle.layout.specs.laws.Columns.{in-record}
@@ -112,7 +113,7 @@ module _ (d : Direction) (place : ℕ) (bs whole : List ℕ) where
   kind-kept : (k : Kind) → T (mayBe k (length bs)) → Bounded (maskOf k .low) (maskOf k .high d) bs → maskOf k .enough ≡ true → firstBroken (means k .rules (aPart place bs whole d)) ≡ Accepted
   kind-kept N m b e = kept 8 (digits-kept b)
   kind-kept NOrBlank m b e = kept 8 (rw (digits-kept b))
-  kind-kept Id m b e = kept 8 (digits-kept b)
+  kind-kept Id m b e = kept 8 (digits-fit (registrationAt place whole) bs (leb→le _ _ m) (digits-kept b))
   kind-kept Text m b e = cc
   kind-kept F m b e = sym done
   kind-kept D m b e = cc

@@ -21,7 +21,7 @@ use Rattle.layout.specs.declared.Direction.{Direction}
 use Rattle.layout.specs.declared.Direction.the-variants.{Remittance, Return}
 use Rattle.layout.specs.declared.Record.{Record}
 use Rattle.layout.specs.declared.shapes.House.{House}
-use Rattle.layout.specs.declared.shapes.House.the-variants.{NoRules, RulesOfJ}
+use Rattle.layout.specs.declared.shapes.House.the-variants.{NoRules, RulesOfJ, OneId, ThreeIds}
 use Rattle.fields.specs.Values.{heldAs, nth, rendered}
 use Rattle.digits.specs.declared.spelling.Number.{Number}
 use Rattle.fields.specs.laws.Parts.{holds}
@@ -39,9 +39,9 @@ use Rattle.writer.specs.declared.Writer.{Writer}
 use Rattle.writer.specs.laws.Lines.{full-text}
 use Rattle.writer.specs.laws.Answers.{call-refused}
 
--- 4, 8, 11 to 20, 23, 25, 50 and 51
+-- 4, 8, 11 to 20, 23, 25, 26, 50 and 51
 abbrev pub writes : ℕ → Bool
-writes n = eqb n 4 || (eqb n 8 || ((leb 11 n && leb n 20) || (eqb n 23 || (eqb n 25 || (leb 50 n && leb n 51)))))
+writes n = eqb n 4 || (eqb n 8 || ((leb 11 n && leb n 20) || (eqb n 23 || ((leb 25 n && leb n 26) || (leb 50 n && leb n 51)))))
 
 -- each rule names such a number, or is kept
 abbrev Writes : List Rule → Type 0
@@ -90,6 +90,8 @@ house : (h : House) (rec : List ℕ) → Writes (houseBy h rec)
 unfolding boletoRules
 house NoRules rec = none
 house RulesOfJ rec = more refl (more refl (more refl (one refl)))
+house OneId rec = one refl
+house ThreeIds rec = more refl (more refl (one refl))
 
 given : (expected : Bool) (s : Checker) (g : Fields) → Whole g → Writes (givenRules expected (g .which) (s .dir) (bytesOf s g))
 unfolding givenRules

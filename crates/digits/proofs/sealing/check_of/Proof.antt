@@ -2,7 +2,7 @@
 use native.Mathlib.Nat.{mod-lt}
 use native.Mathlib.Omega.{arith}
 use borrow.Author.Needs.{needs}
-use Rattle.digits.specs.Checks.{base, counts, checkDigit}
+use Rattle.digits.specs.Checks.{base, valueOf, counts, checkDigit}
 use Rattle.digits.specs.laws.Sums.{weighed-split}
 use Rattle.digits.specs.laws.Moduli.{base-pos}
 use Rattle.digits.proofs.Small.{rest-small}
@@ -24,7 +24,7 @@ returns : tie.Need-returns
 unfolding checkDigit
 returns c =
     let a = c .before .before .before .before .before .before .args in
-    let w = weighed-split (counts (a .m)) (base (a .m)) (a .a .now) (a .b .now) in
+    let w = weighed-split (valueOf (a .m)) (counts (a .m)) (base (a .m)) (a .a .now) (a .b .now) in
     cc
 
 pub check-of-spec : {M : Type 1} → statement M

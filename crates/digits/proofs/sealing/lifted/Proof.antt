@@ -28,6 +28,20 @@ returns-3 c =
     let e = c .before .enum-told2 .given .1 in
     rw (e, lift-eleven (c .before .before .before .args .r) (omega (arith, ap base e)), le-ltb _ _ (c .if1 .left))
 
+eleven-less-requires : tie.Need-eleven-less-requires
+eleven-less-requires c κs = omega (arith, ap base (c .enum-told3 .given .1))
+
+eleven-less-requires-2 : tie.Need-eleven-less-requires-2
+eleven-less-requires-2 c κs = omega (arith, ap base (c .enum-told4 .given .1))
+
+returns-4 : tie.Need-returns-4
+unfolding lift
+returns-4 c = rw (c .before .enum-told3 .given .1) (c .eleven-less .ensures)
+
+returns-5 : tie.Need-returns-5
+unfolding lift
+returns-5 c = rw (c .before .enum-told4 .given .1) (c .eleven-less2 .ensures)
+
 pub lifted-spec : {M : Type 1} → statement M
 lifted-spec =
     tie.close
@@ -40,6 +54,12 @@ lifted-spec =
     sub-result-2
     (λ c. search needs)
     (λ c. search needs)
+    (λ c. search needs)
+    eleven-less-requires
+    (λ c. search needs)
+    eleven-less-requires-2
     returns
     returns-2
-    returns-3)
+    returns-3
+    returns-4
+    returns-5)

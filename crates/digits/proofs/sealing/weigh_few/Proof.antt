@@ -1,4 +1,4 @@
--- `digits::sealing::weigh_few` meets its contract. The invariant: the sum and that of the digits from index i on are the whole sum, and k digits stand to the right of the last. Assumes nothing.
+-- `digits::sealing::weigh_few` meets its contract. The invariant: the sum and that of the bytes from index i on are the whole sum, and k bytes stand to the right of the last. Assumes nothing.
 use mathlib.Core.Path.{_≡_}
 use Prim.Native.Nat.{suc, _+_, _-_, _*_, _≤_}
 use native.Mathlib.Numerals.{add-one}
@@ -6,9 +6,9 @@ use native.Mathlib.Omega.{arith}
 use borrow.Author.Needs.{needs}
 use lib.ListN.{length, getD, drop}
 use lib.Seq.{drop-length}
-use Rattle.digits.specs.Digits.{digitOf, weighed}
-use Rattle.digits.specs.inner.Steps.{behind}
-use Rattle.digits.specs.Checks.{counts}
+use Rattle.digits.specs.Digits.{weighed}
+use Rattle.digits.specs.inner.Steps.{behind, mostCount}
+use Rattle.digits.specs.Checks.{valueOf, counts}
 use Rattle.digits.specs.laws.Sums.{weighed-drop}
 use Rattle.digits.proofs.Small.{counts-small}
 use Rattle.digits.proofs.sealing.weigh_few.Statement.{statement}
@@ -16,7 +16,7 @@ use Rattle.digits.proofs.sealing.weigh_few.Tie as tie
 
 abbrev Inv-loop : tie.InvT-loop
 Inv-loop m s right sum₀ k₀ i₀ sum k i =
-    (i ≤ length s) × (k ≡ length s - i + right) × (sum ≤ 81 * i) × (sum + weighed (behind right (counts m)) (drop i s) ≡ weighed (behind right (counts m)) s)
+    (i ≤ length s) × (k ≡ length s - i + right) × (sum ≤ mostCount * i) × (sum + weighed (valueOf m) (behind right (counts m)) (drop i s) ≡ weighed (valueOf m) (behind right (counts m)) s)
 
 abbrev μ-loop : tie.MeasureT-loop
 μ-loop m s right sum₀ k₀ i₀ sum k i = length s - i
@@ -24,11 +24,11 @@ abbrev μ-loop : tie.MeasureT-loop
 loop-holds : tie.Need-loop-holds Inv-loop μ-loop
 loop-holds c = (omega arith, omega arith, omega arith, omega arith)
 
--- what the digit counts
-small : (c : tie.After-count Inv-loop μ-loop) → c .count .result ≤ 81
+-- what the byte counts
+small : (c : tie.After-count Inv-loop μ-loop) → c .count .result ≤ mostCount
 small c =
     let l = c .before .before .before .before in
-    rw (c .count .ensures) (counts-small (l .before .before .args .m) (l .loop .k - 1) (c .before .digit-of .result) (c .before .digit-of .ensures .1))
+    rw (c .count .ensures) (counts-small (l .before .before .args .m) (l .loop .k - 1) (c .before .value-of .result) (c .before .value-of .ensures .1))
 
 loop-again : tie.Need-loop-again Inv-loop μ-loop
 loop-again c =
@@ -36,9 +36,9 @@ loop-again c =
     let a = l .before .before .args in
     let f = behind (a .right) (counts (a .m)) in
     let k : l .loop .k - 1 ≡ length (a .s .now) - suc (l .loop .i) + a .right = omega arith in
-    let t = weighed-drop f (a .s .now) (l .loop .i) (omega arith) in
-    let d : c .count .result ≡ f (length (a .s .now) - suc (l .loop .i)) (digitOf (getD (a .s .now) (l .loop .i) 0)) =
-    rw (c .count .ensures, c .before .digit-of .ensures .0, k) in
+    let t = weighed-drop (valueOf (a .m)) f (a .s .now) (l .loop .i) (omega arith) in
+    let d : c .count .result ≡ f (length (a .s .now) - suc (l .loop .i)) (valueOf (a .m) (getD (a .s .now) (l .loop .i) 0)) =
+    rw (c .count .ensures, c .before .value-of .ensures .0, k) in
     rw add-one (omega arith, omega arith, omega (arith, small c), omega (arith, t, d, l .loop .inv .3))
 
 returns : tie.Need-returns Inv-loop μ-loop

@@ -1,4 +1,4 @@
--- `digits::sealing::weigh_many` meets its contract. The invariant: the sum is the remainder of the digits from index i on, and k digits stand to the right of the next. Assumes nothing.
+-- `digits::sealing::weigh_many` meets its contract. The invariant: the sum is the remainder of the bytes from index i on, and k bytes stand to the right of the next. Assumes nothing.
 use mathlib.Core.Path.{_≡_, sym, ap, _∙_}
 use Prim.Native.Nat.{ℕ}
 use Prim.Native.Nat.{_+_, _-_, _%_, _≤_}
@@ -9,7 +9,7 @@ use lib.ListN.{length, drop}
 use lib.Seq.{drop-length}
 use Rattle.digits.specs.Digits.{weighed}
 use Rattle.digits.specs.inner.Steps.{behind}
-use Rattle.digits.specs.Checks.{base, counts}
+use Rattle.digits.specs.Checks.{base, valueOf, counts}
 use Rattle.digits.specs.laws.Sums.{turn}
 use Rattle.digits.specs.laws.Moduli.{base-pos}
 use Rattle.digits.proofs.Small.{counts-small, rest-small}
@@ -17,7 +17,7 @@ use Rattle.digits.proofs.sealing.weigh_many.Statement.{statement}
 use Rattle.digits.proofs.sealing.weigh_many.Tie as tie
 
 abbrev Inv-loop : tie.InvT-loop
-Inv-loop m s right sum₀ k₀ i₀ sum k i = (i ≤ length s) × (k ≡ length s - i + right) × (sum ≡ weighed (behind right (counts m)) (drop i s) % base m)
+Inv-loop m s right sum₀ k₀ i₀ sum k i = (i ≤ length s) × (k ≡ length s - i + right) × (sum ≡ weighed (valueOf m) (behind right (counts m)) (drop i s) % base m)
 
 abbrev μ-loop : tie.MeasureT-loop
 μ-loop m s right sum₀ k₀ i₀ sum k i = i
@@ -30,7 +30,7 @@ add-sum : tie.Need-add-sum Inv-loop μ-loop
 add-sum c =
     let l = c .before .before .before .before in
     let m = l .before .before .args .m in
-    omega (arith, rest-small m _ _ (l .loop .inv .2), counts-small m (l .loop .k) (c .before .digit-of .result) (c .before .digit-of .ensures .1))
+    omega (arith, rest-small m _ _ (l .loop .inv .2), counts-small m (l .loop .k) (c .before .value-of .result) (c .before .value-of .ensures .1))
 
 rem-sum : tie.Need-rem-sum Inv-loop μ-loop
 rem-sum c = omega (arith, base-pos (c .before .before .before .before .before .before .before .args .m))
@@ -40,8 +40,8 @@ loop-again c =
     let l = c .before .before .before .before .before in
     let a = l .before .before .args in
     let M = base (a .m) in
-    let t = turn (behind (a .right) (counts (a .m))) M (a .s .now) (l .loop .i) (l .loop .sum) (omega arith) (omega arith) (ap (λ (n : ℕ). n % M) (l .loop .inv .2) ∙ mod-mod _ _) in
-    (omega arith, omega arith, rw (c .base-of .ensures, c .before .count .ensures, c .before .before .digit-of .ensures .0, l .loop .inv .1) t)
+    let t = turn (valueOf (a .m)) (behind (a .right) (counts (a .m))) M (a .s .now) (l .loop .i) (l .loop .sum) (omega arith) (omega arith) (ap (λ (n : ℕ). n % M) (l .loop .inv .2) ∙ mod-mod _ _) in
+    (omega arith, omega arith, rw (c .base-of .ensures, c .before .count .ensures, c .before .before .value-of .ensures .0, l .loop .inv .1) t)
 
 returns : tie.Need-returns Inv-loop μ-loop
 returns c = let l = c .before .loop in let z : l .i ≡ 0 = omega arith in rw z at (l .inv .2)

@@ -4,10 +4,10 @@ use Rattle.layout.proofs.shapes.shape_of.Statement.{statement}
 use Rattle.layout.proofs.shapes.shape_of.Tie as tie
 
 returns : tie.Need-returns
-returns c = rw (c .before .enum-told .given .1) (c .header-or-trailer .ensures)
+returns c = rw (c .before .enum-told .given .1) (c .header .ensures)
 
 returns-2 : tie.Need-returns-2
-returns-2 c = rw (c .before .enum-told2 .given .1) (c .header-or-trailer2 .ensures)
+returns-2 c = rw (c .before .enum-told2 .given .1) (c .header2 .ensures)
 
 returns-3 : tie.Need-returns-3
 returns-3 c = rw (c .before .enum-told3 .given .1) (c .detail .ensures)
@@ -25,10 +25,10 @@ returns-7 : tie.Need-returns-7
 returns-7 c = rw (c .before .enum-told7 .given .1) (c .detail5 .ensures)
 
 returns-8 : tie.Need-returns-8
-returns-8 c = rw (c .before .enum-told8 .given .1) (c .header-or-trailer3 .ensures)
+returns-8 c = rw (c .before .enum-told8 .given .1) (c .trailer .ensures)
 
 returns-9 : tie.Need-returns-9
-returns-9 c = rw (c .before .enum-told9 .given .1) (c .header-or-trailer4 .ensures)
+returns-9 c = rw (c .before .enum-told9 .given .1) (c .trailer2 .ensures)
 
 pub shape-of-spec : {M : Type 1} → statement M
 shape-of-spec =

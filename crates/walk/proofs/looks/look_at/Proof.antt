@@ -84,6 +84,7 @@ look-at-spec =
     (λ c κs. search needs)
     (λ c κs. search needs)
     (λ c κs. search needs)
+    (λ c κs. search needs)
     (λ c. search needs)
     (λ c κs. search needs)
     (λ c. search needs)
@@ -104,7 +105,7 @@ look-at-spec =
     (λ c κs. search needs)
     (λ c κs. search needs)
     (λ c. at-key (c .match .keys1) (for-digits refl))
-    (λ c. at-key (c .match .keys2) (for-digits refl))
+    (λ c. at-key (c .before .match .keys2) (tested (c .id .ensures)))
     returns-4
     returns-5
     returns-6

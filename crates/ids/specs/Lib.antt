@@ -1,0 +1,3 @@
+pub mod Ids
+pub mod Examples
+pub mod laws
