@@ -28,7 +28,7 @@ const PLACES: [(RecordKind, &[Part]); 4] = [
     ),
 ];
 
-/// How many numbers worked out by hand are as they should be.
+/// How many numbers worked out apart are as they should be.
 pub fn check() -> Result<usize, String> {
     let vectors = registration_vectors::check()?;
     let mut random = Random::with_seed(SEED);

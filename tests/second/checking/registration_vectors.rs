@@ -1,5 +1,6 @@
-//! CPF and CNPJ worked out by hand from Receita Federal's published rule. Where
-//! the second program says something else of one of them, it is wrong.
+//! CPF and CNPJ worked out apart from this program, by the weights that document
+//! 02's readings give of Receita Federal's rule. Where the second program says
+//! something else of one of them, it is wrong.
 
 use crate::paper::numbers::{NON_DIGIT, WRONG_REGISTRATION};
 use crate::paper::registration::{Registration, RegistrationRules, CHECK_DIGITS};

@@ -35,7 +35,7 @@ pub fn check(command: &[String]) -> Result<(), String> {
         "changed bytes of numbers that may be not given: {} accepted, {} refused",
         absent.accepted, absent.refused
     );
-    println!("CPF and CNPJ worked out by hand, all as they should be: {registrations}");
+    println!("CPF and CNPJ worked out apart, all as they should be: {registrations}");
     println!("changed bytes at guarded places of files, all refused: {files_refused}");
     println!("files written as they are made, byte for byte: {files_written}");
     println!("{tally}");
