@@ -63,3 +63,11 @@ pub const STRING_CHECK: u8 = 44;
 pub const NO_ROOM: u8 = 50;
 
 pub const OUT_OF_TURN: u8 = 51;
+
+pub const PRODUCT: u8 = 52;
+
+pub const IDENTIFIER: u8 = 53;
+
+pub const BLOCK_CHECK: u8 = 54;
+
+pub const CODE_CHECK: u8 = 55;

@@ -1,5 +1,10 @@
+pub mod Parts
 pub mod Strings
 pub mod Rules
 pub mod Guarded
+pub mod Collection
+pub mod CollectionRules
+pub mod CollectionGuarded
+pub mod CollectionExamples
 pub mod laws
 pub mod inner

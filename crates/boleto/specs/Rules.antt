@@ -1,13 +1,13 @@
 -- The rules of a barcode and of a digit line, in the paper's order. Assumes nothing.
 use mathlib.Core.Bool.{Bool}
 use mathlib.Core.List.{List, [], _∷_, _++_}
-use Prim.Native.Nat.{ℕ, _+_, _-_}
+use Prim.Native.Nat.{ℕ}
 use lib.Dec.{eqb}
-use lib.ListN.{length}
 use Rattle.answer.specs.Rules.{Rule, rule}
-use Rattle.digits.specs.Digits.{digitByte, leading, allDigits, place, places}
+use Rattle.digits.specs.Digits.{digitByte, place}
 use Rattle.digits.specs.Checks.{sealed}
 use Rattle.digits.specs.declared.sealing.Modulus.the-variants.{Ten, Eleven}
+use Rattle.boleto.specs.Parts.{stringRules, partRule}
 use Rattle.boleto.specs.Strings.{barcodeDigits, lineDigits, currencyPlace, barcodeCheck, lineCheck, barcodeOf}
 
 abbrev pub currencyFits : List ℕ → Bool
@@ -15,11 +15,7 @@ currencyFits bs = eqb (place currencyPlace bs) (digitByte 9)
 
 -- a string of n digits: its length, its first non-digit, its currency 9
 unfoldable pub headRules : ℕ → List ℕ → List Rule
-headRules n bs =
-    rule 40 0 (eqb (length bs) n)
-    ∷ rule 41 (leading bs + 1) (allDigits bs)
-    ∷ rule 43 currencyPlace (currencyFits bs)
-    ∷ []
+headRules n bs = stringRules n bs ++ rule 43 currencyPlace (currencyFits bs) ∷ []
 
 -- the general check of a barcode
 abbrev pub generalFits : List ℕ → Bool
@@ -30,7 +26,7 @@ barcodeRules bar = headRules barcodeDigits bar ++ rule 44 barcodeCheck (generalF
 
 -- a field of the line, from place a to its check digit at place b
 abbrev pub fieldRule : ℕ → ℕ → List ℕ → Rule
-fieldRule a b line = rule 42 b (sealed Ten (b - a + 1) (places a b line))
+fieldRule a b line = partRule 42 Ten a b line
 
 -- the three fields, then the general check, which is that of the barcode
 unfoldable pub checkRules : List ℕ → List Rule

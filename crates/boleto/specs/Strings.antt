@@ -1,11 +1,11 @@
 -- The barcode of a boleto and its digit line. Places count from 1. Assumes nothing.
 --     barcode   1-3 bank, 4 currency, 5 general check, 6-9 due factor, 10-19 cents, 20-44 free
 --     line      bank, currency, free 1-5, check; free 6-15, check; free 16-25, check; general check; factor and cents
-use mathlib.Core.List.{List, [], _∷_, _++_}
+use mathlib.Core.List.{List, _++_}
 use Prim.Native.Nat.{ℕ}
-use Rattle.digits.specs.Digits.{digitByte, places}
-use Rattle.digits.specs.Checks.{checkDigit}
+use Rattle.digits.specs.Digits.{places}
 use Rattle.digits.specs.declared.sealing.Modulus.the-variants.{Ten}
+use Rattle.boleto.specs.Parts.{checked}
 
 abbrev pub barcodeDigits : ℕ
 barcodeDigits = 44
@@ -30,15 +30,11 @@ factorDigits bar = places 6 9 bar
 abbrev pub centsDigits : List ℕ → List ℕ
 centsDigits bar = places 10 19 bar
 
--- a field of the line: its digits with their check digit behind them
-abbrev pub checked : List ℕ → List ℕ
-checked bs = bs ++ digitByte (checkDigit Ten bs) ∷ []
-
 unfoldable pub digitLineOf : List ℕ → List ℕ
 digitLineOf bar =
-    checked (places 1 4 bar ++ places 20 24 bar)
-    ++ checked (places 25 34 bar)
-    ++ checked (places 35 44 bar)
+    checked Ten (places 1 4 bar ++ places 20 24 bar)
+    ++ checked Ten (places 25 34 bar)
+    ++ checked Ten (places 35 44 bar)
     ++ places 5 19 bar
 
 unfoldable pub barcodeOf : List ℕ → List ℕ

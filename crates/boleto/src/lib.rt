@@ -1,5 +1,6 @@
 // A boleto's two digit strings, the barcode of 44 digits and the line of 47: checked, and turned
-// into each other.
+// into each other. `collection` does the same for the code of water, power and taxes.
+pub mod collection;
 mod writing;
 
 use answer::Answer;
@@ -13,6 +14,7 @@ ghost use Prim.Native.Nat.{_≤_};
 ghost use lib.ListN.{length};
 ghost use Rattle.answer.specs.Rules.{firstBroken};
 ghost use Rattle.answer.specs.Output.{Writes};
+ghost use Rattle.boleto.specs.Parts.{stringRules, partRule};
 ghost use Rattle.boleto.specs.Strings.{barcodeDigits, lineDigits, digitLineOf, barcodeOf};
 ghost use Rattle.boleto.specs.Rules.{currencyFits, generalFits, headRules, barcodeRules, fieldRule, checkRules, digitLineRules};
 
@@ -37,9 +39,9 @@ pub fn currency_fits(s: &[u8]) -> bool
     s[CURRENCY_PLACE - 1] == b'9'
 }
 
-// The rules that barcode and line share, for a string of n digits.
-fn check_head(s: &[u8], n: usize) -> Answer
-    ensures { λ r. ⌜ r ≡ firstBroken (headRules n (now (s .entry))) ⌝ }
+// Whether s is a string of n digits.
+fn check_string(s: &[u8], n: usize) -> Answer
+    ensures { λ r. ⌜ r ≡ firstBroken (stringRules n (now (s .entry))) ⌝ }
 {
     if s.len() != n {
         return Answer::refused(numbers::STRING_LENGTH, 0);
@@ -48,7 +50,14 @@ fn check_head(s: &[u8], n: usize) -> Answer
     if leading != s.len() {
         return Answer::refused(numbers::STRING_DIGIT, leading + 1);
     }
-    Answer::test(numbers::CURRENCY, CURRENCY_PLACE, currency_fits(s))
+    Answer::Accepted
+}
+
+// The rules that barcode and line share, for a string of n digits.
+fn check_head(s: &[u8], n: usize) -> Answer
+    ensures { λ r. ⌜ r ≡ firstBroken (headRules n (now (s .entry))) ⌝ }
+{
+    check_string(s, n).and_then(Answer::test(numbers::CURRENCY, CURRENCY_PLACE, currency_fits(s)))
 }
 
 // The general check of a barcode.
@@ -66,13 +75,22 @@ pub fn check_barcode(bar: &[u8]) -> Answer
     head.and_then(Answer::test(numbers::STRING_CHECK, BARCODE_CHECK, is_sealed(bar)))
 }
 
-// The check digit at the end of a line's field, which has the places from `first` to `last`.
+// The check digit at the end of a part of a line, which has the places from `first` to `last`. A
+// wrong one is refused with `number`.
+fn check_part(number: u8, m: Modulus, line: &[u8], first: usize, last: usize) -> Answer
+    requires { ⌜ (1 ≤ first) × (first ≤ last) × (last ≤ length (now line)) ⌝ }
+    ensures { λ r. ⌜ r ≡ firstBroken (partRule number m first last (now (line .entry)) ∷ []) ⌝ }
+{
+    let sealed = digits::is_sealed(m, &line[first - 1..last], last - first);
+    Answer::test(number, last, sealed)
+}
+
+// A field of a boleto's line.
 fn check_field(line: &[u8], first: usize, last: usize) -> Answer
     requires { ⌜ (1 ≤ first) × (first ≤ last) × (last ≤ length (now line)) ⌝ }
     ensures { λ r. ⌜ r ≡ firstBroken (fieldRule first last (now (line .entry)) ∷ []) ⌝ }
 {
-    let sealed = digits::is_sealed(Modulus::Ten, &line[first - 1..last], last - first);
-    Answer::test(numbers::FIELD_CHECK, last, sealed)
+    check_part(numbers::FIELD_CHECK, Modulus::Ten, line, first, last)
 }
 
 // The general check of a line is that of its barcode.

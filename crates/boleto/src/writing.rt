@@ -1,4 +1,5 @@
-// Where each digit of the line goes in the barcode, and back.
+// Where each digit of the line goes in the barcode, and back; the steps serve a collection's strings
+// too.
 use digits::Modulus;
 ghost use mathlib.Core.Path.{_≡_};
 ghost use mathlib.Core.List.{_++_};
@@ -8,7 +9,7 @@ ghost use Rattle.boleto.specs.Strings.{barcodeDigits, lineDigits, digitL
 ghost use Rattle.boleto.specs.inner.Steps.{laid, sealing};
 
 // Copies the places from `first` to `last` of src to out, from place `to` on.
-fn put(src: &[u8], first: usize, last: usize, out: &mut [u8], to: usize)
+pub(crate) fn put(src: &[u8], first: usize, last: usize, out: &mut [u8], to: usize)
     requires { ⌜ (1 ≤ first) × (first ≤ last) × (last ≤ length (now src)) ⌝ }
     requires { ⌜ (1 ≤ to) × (to + (last - first) ≤ length (now out)) ⌝ }
     ensures { λ _. ⌜ now (out .exit) ≡ laid (now (out .entry)) to (now (src .entry)) first last ⌝ }
@@ -22,23 +23,31 @@ fn put(src: &[u8], first: usize, last: usize, out: &mut [u8], to: usize)
     }
 }
 
-// Writes at place `last` the field check of the digits from place `first` up to it.
-fn seal(out: &mut [u8], first: usize, last: usize)
+// Writes at place `last` the check digit of those from place `first` up to it.
+fn seal(m: Modulus, out: &mut [u8], first: usize, last: usize)
     requires { ⌜ (1 ≤ first) × (first ≤ last) × (last ≤ length (now out)) ⌝ }
-    ensures { λ _. ⌜ now (out .exit) ≡ sealing (now (out .entry)) first last ⌝ }
+    ensures { λ _. ⌜ now (out .exit) ≡ sealing m (now (out .entry)) first last ⌝ }
 {
-    let check = digits::check_digit(Modulus::Ten, &out[first - 1..last - 1]);
+    let check = digits::check_digit(m, &out[first - 1..last - 1]);
     out[last - 1] = check;
 }
 
-// Copies as `put`, and behind that writes the check of the field that begins at place `field`.
-fn put_sealed(src: &[u8], first: usize, last: usize, out: &mut [u8], to: usize, field: usize)
+// Copies as `put`, and behind that writes the check digit of the part that begins at place `part`.
+pub(crate) fn put_sealed(
+    m: Modulus,
+    src: &[u8],
+    first: usize,
+    last: usize,
+    out: &mut [u8],
+    to: usize,
+    part: usize,
+)
     requires { ⌜ (1 ≤ first) × (first ≤ last) × (last ≤ length (now src)) ⌝ }
-    requires { ⌜ (1 ≤ field) × (field ≤ to) × (to + (last - first) < length (now out)) ⌝ }
-    ensures { λ _. ⌜ now (out .exit) ≡ sealing (laid (now (out .entry)) to (now (src .entry)) first last) field (to + (last - first) + 1) ⌝ }
+    requires { ⌜ (1 ≤ part) × (part ≤ to) × (to + (last - first) < length (now out)) ⌝ }
+    ensures { λ _. ⌜ now (out .exit) ≡ sealing m (laid (now (out .entry)) to (now (src .entry)) first last) part (to + (last - first) + 1) ⌝ }
 {
     put(src, first, last, out, to);
-    seal(out, field, to + (last - first) + 1);
+    seal(m, out, part, to + (last - first) + 1);
 }
 
 // Writes the barcode of a line over the first 44 bytes of out.
@@ -63,8 +72,8 @@ pub(crate) fn write_line(bar: &[u8], out: &mut [u8])
 {
     // bank, currency and the first free digits; the other free digits; general check, factor and cents
     put(bar, 1, 4, out, 1);
-    put_sealed(bar, 20, 24, out, 5, 1);
-    put_sealed(bar, 25, 34, out, 11, 11);
-    put_sealed(bar, 35, 44, out, 22, 22);
+    put_sealed(Modulus::Ten, bar, 20, 24, out, 5, 1);
+    put_sealed(Modulus::Ten, bar, 25, 34, out, 11, 11);
+    put_sealed(Modulus::Ten, bar, 35, 44, out, 22, 22);
     put(bar, 5, 19, out, 33);
 }

@@ -22,6 +22,7 @@ use Rattle.layout.specs.declared.Record.the-variants.{FileHeader, BatchHeader, 
 use Rattle.layout.specs.declared.shapes.LineType.the-variants.{Detail}
 use Rattle.layout.specs.Field.{Field}
 use Rattle.layout.specs.Records.{shapeOf, letterOf}
+use Rattle.layout.specs.inner.Lent.{fieldCount}
 use Rattle.layout.specs.laws.Columns.{all-fields}
 use Rattle.checker.specs.laws.Details.{behind-segment}
 use Rattle.checker.specs.Totals.{recordCount, paymentCount, paymentsOf}
@@ -39,17 +40,17 @@ behind-five r k = rw k
 
 -- where the fields behind a place stand in the table
 module _ (d : Direction) (rec : List ℕ) (l : length rec ≡ recordBytes) {a : Answer} where
-  pub file-header : a ≡ firstBroken (someRules FileHeader d 3 143 rec) → a ≡ firstBroken (rulesOf (behind typePlace FileHeader) d rec)
+  pub file-header : a ≡ firstBroken (someRules FileHeader d 3 fieldCount rec) → a ≡ firstBroken (rulesOf (behind typePlace FileHeader) d rec)
   unfolding fieldsOf within
-  file-header e = e ∙ some FileHeader d 3 143 rec l
+  file-header e = e ∙ some FileHeader d 3 fieldCount rec l
 
-  pub batch-header : a ≡ firstBroken (someRules BatchHeader d 3 143 rec) → a ≡ firstBroken (rulesOf (behind typePlace BatchHeader) d rec)
+  pub batch-header : a ≡ firstBroken (someRules BatchHeader d 3 fieldCount rec) → a ≡ firstBroken (rulesOf (behind typePlace BatchHeader) d rec)
   unfolding fieldsOf within
-  batch-header e = e ∙ some BatchHeader d 3 143 rec l
+  batch-header e = e ∙ some BatchHeader d 3 fieldCount rec l
 
-  pub body : (r : Record) → shapeOf r .line ≡ Detail → a ≡ firstBroken (someRules r d 5 143 rec) → a ≡ firstBroken (rulesOf (behind segmentPlace r) d rec)
+  pub body : (r : Record) → shapeOf r .line ≡ Detail → a ≡ firstBroken (someRules r d 5 fieldCount rec) → a ≡ firstBroken (rulesOf (behind segmentPlace r) d rec)
   body r k e =
-      e ∙ some r d 5 143 rec l ∙ ap (λ (fs : List Field). firstBroken (rulesOf fs d rec)) (ap (drop 5) (all-fields r) ∙ behind-five r k ∙ sym (behind-segment r k))
+      e ∙ some r d 5 fieldCount rec l ∙ ap (λ (fs : List Field). firstBroken (rulesOf fs d rec)) (ap (drop 5) (all-fields r) ∙ behind-five r k ∙ sym (behind-segment r k))
 
   pub to-batch-records : a ≡ firstBroken (someRules BatchTrailer d 3 5 rec) → a ≡ firstBroken (rulesOf (between typePlace (batchRecords .to) BatchTrailer) d rec)
   unfolding fieldsOf within

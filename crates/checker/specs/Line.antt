@@ -1,7 +1,7 @@
 -- The rules of a line, in the paper's order. Assumes nothing.
 use mathlib.Core.Bool.{Bool, true, false, not, cond, _&&_, _||_}
 use mathlib.Core.List.{List, [], _∷_, _++_}
-use Prim.Native.Nat.{ℕ, suc, _+_}
+use Prim.Native.Nat.{ℕ, suc, _+_, _-_}
 use lib.Dec.{leb, ltb, eqb}
 use lib.ListN.{length, take}
 use Rattle.answer.specs.Limits.{fileCents}
@@ -13,16 +13,18 @@ use Rattle.calendar.specs.Due.{factorFits}
 use Rattle.ids.specs.Ids.{idFits}
 use Rattle.boleto.specs.Strings.{factorDigits, centsDigits}
 use Rattle.boleto.specs.Rules.{generalFits}
+use Rattle.boleto.specs.Collection.{productPlace, identifierPlace, codeCheck}
+use Rattle.boleto.specs.CollectionRules.{productFits, identifierFits, codeSealed}
 use Rattle.layout.specs.Field.{Field, part}
 use Rattle.layout.specs.Records.{shapeOf, boletoAmount}
-use Rattle.layout.specs.Table.{bankField, batchField, typePlace, numberField, segmentPlace, segmentFields, fieldsOf, recordBytes, holderId, payerId, payeeId, guarantorId, barcodeField, dueField, nominalField, discountField, fineField, batchRecords, batchSum, fileBatches, fileRecords}
+use Rattle.layout.specs.Table.{bankField, batchField, typePlace, numberField, segmentPlace, segmentFields, fieldsOf, recordBytes, holderId, payerId, payeeId, guarantorId, barcodeField, dueField, nominalField, discountField, fineField, codeField, batchRecords, batchSum, fileBatches, fileRecords}
 use Rattle.layout.specs.Kinds.{registrationAt}
 use Rattle.layout.specs.Record.{rulesOf, byteRule}
 use Rattle.layout.specs.declared.Record.{Record}
 use Rattle.layout.specs.declared.shapes.LineType.{LineType}
 use Rattle.layout.specs.declared.shapes.LineType.the-variants.{FileFirst, BatchFirst, Detail, BatchLast, FileLast}
 use Rattle.layout.specs.declared.shapes.House.{House}
-use Rattle.layout.specs.declared.shapes.House.the-variants.{NoRules, RulesOfJ, OneId, ThreeIds}
+use Rattle.layout.specs.declared.shapes.House.the-variants.{NoRules, RulesOfJ, OneId, ThreeIds, RulesOfO}
 use Rattle.checker.specs.Order.{follows, readAs, ended}
 use Rattle.checker.specs.Totals.{batchCount, recordCount, paymentCount, centSum, paymentsOf}
 use Rattle.checker.specs.declared.order.Reading.{Reading}
@@ -113,12 +115,27 @@ boletoRules rec =
     ∷ rule 19 (boletoAmount .from) (amountFits rec)
     ∷ []
 
+-- ---- house rules of O
+
+-- where a place of the code stands in an O
+abbrev pub codePlace : ℕ → ℕ
+codePlace p = codeField .from - 1 + p
+
+-- the code's product, its identifier and its general check
+unfoldable pub collectionRules : List ℕ → List Rule
+collectionRules rec =
+    rule 52 (codePlace productPlace) (productFits (part codeField rec))
+    ∷ rule 53 (codePlace identifierPlace) (identifierFits (part codeField rec))
+    ∷ rule 55 (codePlace codeCheck) (codeSealed (part codeField rec))
+    ∷ []
+
 -- what the house asks of a record behind its fields: the leftmost number first
 abbrev pub houseBy : House → List ℕ → List Rule
 houseBy NoRules rec = []
 houseBy RulesOfJ rec = boletoRules rec
 houseBy OneId rec = idRule holderId rec ∷ []
 houseBy ThreeIds rec = idRule payerId rec ∷ idRule payeeId rec ∷ idRule guarantorId rec ∷ []
+houseBy RulesOfO rec = collectionRules rec
 
 abbrev pub houseRules : Record → List ℕ → List Rule
 houseRules r rec = houseBy (shapeOf r .house) rec

@@ -8,9 +8,9 @@ use Rattle.layout.specs.Records.{isOneOf, typeOf, letterZ}
 use Rattle.layout.specs.declared.Direction.{Direction}
 use Rattle.layout.specs.declared.Direction.the-variants.{Remittance, Return}
 use Rattle.layout.specs.declared.Record.{Record}
-use Rattle.layout.specs.declared.Record.the-variants.{FileHeader, BatchHeader, SegmentA, SegmentB, SegmentJ, SegmentJ52, SegmentZ, BatchTrailer, FileTrailer}
+use Rattle.layout.specs.declared.Record.the-variants.{FileHeader, BatchHeader, SegmentA, SegmentB, SegmentJ, SegmentJ52, SegmentZ, BatchTrailer, FileTrailer, SegmentO}
 use Rattle.layout.specs.declared.pairs.Batch.{Batch}
-use Rattle.layout.specs.declared.pairs.Batch.the-variants.{Credit, Boleto, Unknown}
+use Rattle.layout.specs.declared.pairs.Batch.the-variants.{Credit, Boleto, Unknown, Collection}
 use Rattle.layout.specs.declared.shapes.Phase.{Phase}
 use Rattle.layout.specs.declared.shapes.Phase.the-variants.{Start, Headed, Opened, Within, Paid, BehindZ, Closed, Ended}
 use Rattle.checker.specs.declared.order.Reading.{Reading}
@@ -21,6 +21,7 @@ abbrev pub payment : Batch → List Record
 payment Credit = SegmentA ∷ SegmentB ∷ []
 payment Boleto = SegmentJ ∷ SegmentJ52 ∷ []
 payment Unknown = []
+payment Collection = SegmentO ∷ []
 
 -- the one at a position, from 0 on; behind the last there is none
 abbrev pub recordAt : ℕ → Batch → List Record

@@ -1,5 +1,7 @@
-// What the house asks of a record behind its fields: right registration numbers, and the rules of J.
+// What the house asks of a record behind its fields: right registration numbers, and the rules of J
+// and of O.
 use super::boletos::check_boleto;
+use super::collections::check_collection;
 use answer::Answer;
 use answer::numbers;
 use layout::House;
@@ -45,5 +47,6 @@ pub(crate) fn check_house(house: House, rec: &[u8]) -> Answer
         House::RulesOfJ => check_boleto(rec),
         House::OneId => check_id(rec, places::HOLDER_ID_FROM, places::HOLDER_ID_TO),
         House::ThreeIds => check_three_ids(rec),
+        House::RulesOfO => check_collection(rec),
     }
 }

@@ -1,5 +1,6 @@
 // The line machine: a checker's state by value, and its step over a line.
 mod boletos;
+mod collections;
 mod house;
 mod limits;
 mod lines;

@@ -38,6 +38,16 @@ pub fn is_ended(phase: Phase) -> bool
     }
 }
 
+// The record at a position of one, from 0 on; behind it there is none.
+fn of_one(position: u8, only: Record) -> Reading
+    ensures { λ r. ⌜ r ≡ readingOf (take 1 (drop position (only ∷ []))) ⌝ }
+{
+    match position {
+        0 => Reading::Line(only),
+        _ => Reading::Nothing,
+    }
+}
+
 // The record at a position of two, from 0 on; behind the last there is none.
 fn of_two(position: u8, first: Record, second: Record) -> Reading
     ensures { λ r. ⌜ r ≡ readingOf (take 1 (drop position (first ∷ second ∷ []))) ⌝ }
@@ -57,6 +67,7 @@ pub fn record_at(batch: Batch, position: u8) -> Reading
         Batch::Credit => of_two(position, Record::SegmentA, Record::SegmentB),
         Batch::Boleto => of_two(position, Record::SegmentJ, Record::SegmentJ52),
         Batch::Unknown => Reading::Nothing,
+        Batch::Collection => of_one(position, Record::SegmentO),
     }
 }
 
@@ -68,6 +79,7 @@ pub fn records_of(batch: Batch) -> u8
         Batch::Credit => 2,
         Batch::Boleto => 2,
         Batch::Unknown => 0,
+        Batch::Collection => 1,
     }
 }
 

@@ -197,6 +197,7 @@ pub(crate) fn payments_by(amount: Amount) -> u64
         Amount::NoAmount => 0,
         Amount::AmountOfA => 1,
         Amount::AmountOfJ => 1,
+        Amount::AmountOfO => 1,
     }
 }
 
@@ -208,6 +209,7 @@ fn cents_by(kind: Amount, rec: &[u8]) -> Cents
         Amount::NoAmount => Cents(0),
         Amount::AmountOfA => amount(rec, places::CREDIT_AMOUNT),
         Amount::AmountOfJ => amount(rec, places::BOLETO_AMOUNT),
+        Amount::AmountOfO => amount(rec, places::COLLECTION_AMOUNT),
     }
 }
 

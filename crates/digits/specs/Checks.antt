@@ -1,7 +1,7 @@
 -- Check digits by modulus 10 and modulus 11, weighed from the right. Assumes nothing.
---     Ten           the fields of a boleto's line
+--     Ten           the fields of a boleto's line; a collection code by modulus 10
 --     Eleven        a boleto's general check
---     PlainEleven   a CNPJ, digits and capital letters
+--     PlainEleven   a CNPJ, digits and capital letters; a collection code by modulus 11
 --     LongEleven    a CPF
 use mathlib.Core.Bool.{Bool, cond, _&&_, _||_}
 use mathlib.Core.List.{List}

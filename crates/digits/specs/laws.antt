@@ -5,4 +5,5 @@ pub mod Sums
 pub mod Numerals
 pub mod Moduli
 pub mod Seals
+pub mod Plain
 pub mod Twice

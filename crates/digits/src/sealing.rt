@@ -10,7 +10,8 @@ ghost use Rattle.digits.specs.inner.Steps.{behind, few, mostValue};
 ghost use Rattle.digits.specs.Checks.{base, valueOf, counts, plainLift, lift, checkDigit, sealed, endsRight, endsRightTwice};
 
 // Ten: weights 2, 1, 2 .. and the digits of each product added. Eleven: weights 2 to 9, repeating.
-// PlainEleven: the same, over digits and capital letters, with check digit 0 for remainder 0 or 1.
+// PlainEleven: the same, over digits and capital letters, with check digit 0 for remainder 0 or 1;
+// for a CNPJ, and for a collection code by modulus 11.
 // LongEleven: weights 2 to 11, repeating, over digits, with check digit 0 for remainder 0 or 1.
 pub enum Modulus {
     Ten,

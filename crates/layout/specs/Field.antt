@@ -4,9 +4,10 @@ use Prim.Native.Nat.{ℕ}
 use Rattle.digits.specs.Digits.{places}
 
 -- N digits; NOrBlank digits, or blanks for a number that is not given; Id a registration number, CPF or CNPJ; T text; F any; D a date; Time; K blanks;
--- O blanks in a remittance; zeros; exact content; a domain; service and form; the barcode; the record's type and its segment
+-- O blanks in a remittance; zeros; exact content; a domain; service and form; the barcode; the collection code; the record's type and
+-- its segment
 pub data Kind : Type 0 where
-  N NOrBlank Id T F D Time K O Zeros Service Form Barcode : Kind
+  N NOrBlank Id T F D Time K O Zeros Service Form Barcode Code : Kind
   Exact OneOf : List ℕ → Kind
   RecordType Segment : ℕ → Kind
 

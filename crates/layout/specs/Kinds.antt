@@ -12,7 +12,7 @@ use Rattle.ids.specs.declared.Registration.{Registration}
 use Rattle.boleto.specs.Strings.{currencyPlace}
 use Rattle.boleto.specs.Rules.{currencyFits}
 use Rattle.layout.specs.Pairs.{among, batchOf, known}
-use Rattle.layout.specs.Field.{Kind, N, NOrBlank, Id, T, F, D, Time, K, O, Zeros, Exact, OneOf, Service, Form, Barcode, RecordType, Segment, part}
+use Rattle.layout.specs.Field.{Kind, N, NOrBlank, Id, T, F, D, Time, K, O, Zeros, Exact, OneOf, Service, Form, Barcode, Code, RecordType, Segment, part}
 use Rattle.layout.specs.Table.{serviceField, formField}
 use Rattle.layout.specs.declared.Direction.{Direction}
 use Rattle.layout.specs.declared.Direction.the-variants.{Remittance, Return}
@@ -138,5 +138,6 @@ means (OneOf domain) = row asNumber (wrong 14 (oneOf domain))
 means Service = row asNumber pairRule
 means Form = row asNumber (λ p. [])
 means Barcode = row asBytes barcodeRules
+means Code = row asBytes (wrong 8 allDigits)
 means (RecordType b) = fixedAs 6 (text (b ∷ []))
 means (Segment b) = fixedAs 11 (text (b ∷ []))

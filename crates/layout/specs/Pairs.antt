@@ -9,7 +9,7 @@ use Rattle.calendar.specs.Calendar.{numberFits}
 use Rattle.layout.specs.declared.Direction.{Direction}
 use Rattle.layout.specs.declared.Direction.the-variants.{Remittance, Return}
 use Rattle.layout.specs.declared.pairs.Batch.{Batch}
-use Rattle.layout.specs.declared.pairs.Batch.the-variants.{Credit, Boleto, Unknown}
+use Rattle.layout.specs.declared.pairs.Batch.the-variants.{Credit, Boleto, Unknown, Collection}
 
 pub record Pairs : Type 0 where
   pub service : ℕ
@@ -27,6 +27,7 @@ abbrev pub pairs : Direction → List Pairs
 pairs d =
     with-forms 20 (1 ∷ 10 ∷ 41 ∷ 45 ∷ []) Credit
     ∷ with-forms (boletoService d) (30 ∷ 31 ∷ []) Boleto
+    ∷ with-forms 29 (11 ∷ []) Collection
     ∷ []
 
 abbrev pub among : ℕ → List ℕ → Bool
@@ -47,3 +48,4 @@ abbrev pub known : Batch → Bool
 known Credit = true
 known Boleto = true
 known Unknown = false
+known Collection = true

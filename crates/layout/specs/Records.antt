@@ -6,15 +6,15 @@ use lib.Dec.{eqb}
 use Rattle.digits.specs.Digits.{digitByte}
 use Rattle.layout.specs.Field.{Field, field, N}
 use Rattle.layout.specs.declared.Record.{Record}
-use Rattle.layout.specs.declared.Record.the-variants.{FileHeader, BatchHeader, SegmentA, SegmentB, SegmentJ, SegmentJ52, SegmentZ, BatchTrailer, FileTrailer}
+use Rattle.layout.specs.declared.Record.the-variants.{FileHeader, BatchHeader, SegmentA, SegmentB, SegmentJ, SegmentJ52, SegmentZ, BatchTrailer, FileTrailer, SegmentO}
 use Rattle.layout.specs.declared.shapes.LineType.{LineType}
 use Rattle.layout.specs.declared.shapes.LineType.the-variants.{FileFirst, BatchFirst, Detail, BatchLast, FileLast}
 use Rattle.layout.specs.declared.shapes.Phase.{Phase}
 use Rattle.layout.specs.declared.shapes.Phase.the-variants.{Headed, Opened, Within, Paid, BehindZ, Closed, Ended}
 use Rattle.layout.specs.declared.shapes.Amount.{Amount}
-use Rattle.layout.specs.declared.shapes.Amount.the-variants.{NoAmount, AmountOfA, AmountOfJ}
+use Rattle.layout.specs.declared.shapes.Amount.the-variants.{NoAmount, AmountOfA, AmountOfJ, AmountOfO}
 use Rattle.layout.specs.declared.shapes.House.{House}
-use Rattle.layout.specs.declared.shapes.House.the-variants.{NoRules, RulesOfJ, OneId, ThreeIds}
+use Rattle.layout.specs.declared.shapes.House.the-variants.{NoRules, RulesOfJ, OneId, ThreeIds, RulesOfO}
 use Rattle.layout.specs.declared.shapes.Shape.{Shape}
 
 -- a row: the record's number in the table; the type of its line; the letter of a detail; the phase behind it; its amount; what the house asks of it
@@ -22,7 +22,7 @@ abbrev pub shape : ℕ → LineType → ℕ → Phase → Amount → House → S
 shape code line letter after amount house =
     record { code = code; line = line; letter = letter; after = after; amount = amount; house = house }
 
--- headers and trailers have no letter; the letters of details: A 65, B 66, J 74, Z 90
+-- headers and trailers have no letter; the letters of details: A 65, B 66, J 74, O 79, Z 90
 abbrev pub noLetter : ℕ
 noLetter = 0
 
@@ -39,10 +39,11 @@ shapeOf SegmentJ52 = shape 5 Detail 74 Paid NoAmount ThreeIds
 shapeOf SegmentZ = shape 6 Detail letterZ BehindZ NoAmount NoRules
 shapeOf BatchTrailer = shape 7 BatchLast noLetter Closed NoAmount NoRules
 shapeOf FileTrailer = shape 8 FileLast noLetter Ended NoAmount NoRules
+shapeOf SegmentO = shape 9 Detail 79 Paid AmountOfO RulesOfO
 
 -- all of them, in the order of their numbers
 abbrev pub records : List Record
-records = FileHeader ∷ BatchHeader ∷ SegmentA ∷ SegmentB ∷ SegmentJ ∷ SegmentJ52 ∷ SegmentZ ∷ BatchTrailer ∷ FileTrailer ∷ []
+records = FileHeader ∷ BatchHeader ∷ SegmentA ∷ SegmentB ∷ SegmentJ ∷ SegmentJ52 ∷ SegmentZ ∷ BatchTrailer ∷ FileTrailer ∷ SegmentO ∷ []
 
 -- ---- read from the row
 
@@ -78,17 +79,21 @@ letterOf r = shapeOf r .letter
 abbrev pub after : Record → Phase
 after r = shapeOf r .after
 
--- the amount of a payment, in A and in J
+-- the amount of a payment, in A, in J and in O
 abbrev pub creditAmount : Field
 creditAmount = field 120 134 N
 
 abbrev pub boletoAmount : Field
 boletoAmount = field 153 167 N
 
+abbrev pub collectionAmount : Field
+collectionAmount = field 108 122 N
+
 abbrev pub amountField : Amount → List Field
 amountField NoAmount = []
 amountField AmountOfA = creditAmount ∷ []
 amountField AmountOfJ = boletoAmount ∷ []
+amountField AmountOfO = collectionAmount ∷ []
 
 abbrev pub amountsOf : Record → List Field
 amountsOf r = amountField (shapeOf r .amount)

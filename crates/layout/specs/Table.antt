@@ -4,10 +4,10 @@ use mathlib.Core.List.{List, [], _∷_, _++_}
 use Prim.Native.Nat.{ℕ, suc, _-_}
 use lib.Dec.{leb, eqb}
 use Rattle.digits.specs.Digits.{digitByte}
-use Rattle.layout.specs.Field.{Kind, N, NOrBlank, Id, T, F, D, Time, K, O, Zeros, Exact, OneOf, Service, Form, Barcode, RecordType, Segment, Field, field}
-use Rattle.layout.specs.Records.{shapeOf, records, isDetail, typeOf, letterOf, creditAmount, boletoAmount}
+use Rattle.layout.specs.Field.{Kind, N, NOrBlank, Id, T, F, D, Time, K, O, Zeros, Exact, OneOf, Service, Form, Barcode, Code, RecordType, Segment, Field, field}
+use Rattle.layout.specs.Records.{shapeOf, records, isDetail, typeOf, letterOf, creditAmount, boletoAmount, collectionAmount}
 use Rattle.layout.specs.declared.Record.{Record}
-use Rattle.layout.specs.declared.Record.the-variants.{FileHeader, BatchHeader, SegmentA, SegmentB, SegmentJ, SegmentJ52, SegmentZ, BatchTrailer, FileTrailer}
+use Rattle.layout.specs.declared.Record.the-variants.{FileHeader, BatchHeader, SegmentA, SegmentB, SegmentJ, SegmentJ52, SegmentZ, BatchTrailer, FileTrailer, SegmentO}
 
 -- ---- what lines begin with
 
@@ -117,7 +117,7 @@ paidDate = field 155 162 NOrBlank
 abbrev pub paidAmount : Field
 paidAmount = field 163 177 NOrBlank
 
--- what a boleto pays by, beside its amount
+-- what a boleto is paid by, beside its amount; the due date stands in O too
 abbrev pub barcodeField : Field
 barcodeField = field 18 61 Barcode
 
@@ -132,6 +132,10 @@ discountField = field 115 129 N
 
 abbrev pub fineField : Field
 fineField = field 130 144 N
+
+-- what a collection is paid by: a bill of water or power, or a tax
+abbrev pub codeField : Field
+codeField = field 18 61 Code
 
 -- counts and sum of the trailers
 abbrev pub batchRecords : Field
@@ -173,6 +177,9 @@ own SegmentZ = field 15 240 F ∷ []
 own BatchTrailer =
     field 9 17 K ∷ batchRecords ∷ batchSum ∷ field 42 59 N ∷ field 60 65 N ∷ field 66 230 K ∷ field 231 240 O ∷ []
 own FileTrailer = field 9 17 K ∷ fileBatches ∷ fileRecords ∷ field 30 35 N ∷ field 36 240 K ∷ []
+own SegmentO =
+    movementField ∷ field 16 17 N ∷ codeField ∷ field 62 91 T ∷ dueField ∷ field 100 107 D ∷ collectionAmount ∷ field 123 142 T
+    ∷ field 143 162 F ∷ field 163 230 K ∷ field 231 240 O ∷ []
 
 unfoldable pub fieldsOf : Record → List Field
 fieldsOf r = line r ++ (detail r ++ own r)

@@ -52,8 +52,11 @@ pub const EXACT_52: u8 = 16;
 // Digits, or blanks for a number that is not given.
 pub const N_OR_BLANK: u8 = 17;
 
+// The digits of a collection code.
+pub const CODE: u8 = 18;
+
 // Any other number.
-pub const F: u8 = 18;
+pub const F: u8 = 19;
 
 // Whether the kind's rule asks more than the masks of a record tell.
 pub fn is_whole(k: u8) -> bool
@@ -95,6 +98,7 @@ pub fn fill_of(k: u8) -> Fill
         EXACT_09 => Fill::Fixed(Content::Code09),
         EXACT_52 => Fill::Fixed(Content::Code52),
         N_OR_BLANK => Fill::Number,
+        CODE => Fill::Text,
         _ => Fill::Text,
     }
 }

@@ -51,6 +51,7 @@ pub enum Record {
     SegmentZ,
     BatchTrailer,
     FileTrailer,
+    SegmentO,
 }
 
 pub const RECORD_BYTES: usize = 240;

@@ -228,3 +228,24 @@ pub const FILE_TRAILER_BATCHES: Name = Name(Record::FileTrailer, 4); // 18-23
 pub const FILE_TRAILER_RECORDS: Name = Name(Record::FileTrailer, 5); // 24-29
 
 pub const FILE_TRAILER_ACCOUNTS: Name = Name(Record::FileTrailer, 6); // 30-35
+
+// O
+pub const O_MOVEMENT: Name = Name(Record::SegmentO, 5); // 15
+
+pub const O_INSTRUCTION: Name = Name(Record::SegmentO, 6); // 16-17
+
+pub const O_CODE: Name = Name(Record::SegmentO, 7); // 18-61
+
+pub const O_PAYEE: Name = Name(Record::SegmentO, 8); // 62-91
+
+pub const O_DUE: Name = Name(Record::SegmentO, 9); // 92-99
+
+pub const O_DATE: Name = Name(Record::SegmentO, 10); // 100-107
+
+pub const O_AMOUNT: Name = Name(Record::SegmentO, 11); // 108-122
+
+pub const O_OUR_NUMBER: Name = Name(Record::SegmentO, 12); // 123-142
+
+pub const O_BANK_NUMBER: Name = Name(Record::SegmentO, 13); // 143-162
+
+pub const O_OCCURRENCES: Name = Name(Record::SegmentO, 15); // 231-240

@@ -9,9 +9,14 @@ pub enum Batch {
     Credit,
     Boleto,
     Unknown,
+    Collection,
 }
 
 const CREDIT_SERVICE: u64 = 20;
+
+const COLLECTION_SERVICE: u64 = 29;
+
+const COLLECTION_FORM: u64 = 11;
 
 fn boleto_service(dir: Direction) -> u64
     ensures { λ r. ⌜ r ≡ boletoService dir ⌝ }
@@ -33,6 +38,9 @@ pub fn batch_with(dir: Direction, service: u64, form: u64) -> Batch
     let boleto_form = (form == 30) | (form == 31);
     if (service == boleto_service(dir)) & boleto_form {
         return Batch::Boleto;
+    }
+    if (service == COLLECTION_SERVICE) & (form == COLLECTION_FORM) {
+        return Batch::Collection;
     }
     Batch::Unknown
 }

@@ -77,6 +77,13 @@ pub const FINE: usize = 130;
 
 pub const BOLETO_AMOUNT: usize = 153;
 
+// O: the collection code, and the amount.
+pub const CODE_FROM: usize = 18;
+
+pub const CODE_TO: usize = 61;
+
+pub const COLLECTION_AMOUNT: usize = 108;
+
 // In a barcode: factor and cents.
 pub const FACTOR_FROM: usize = 6;
 

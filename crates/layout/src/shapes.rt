@@ -49,6 +49,7 @@ pub enum Amount {
     NoAmount,
     AmountOfA,
     AmountOfJ,
+    AmountOfO,
 }
 
 // What the house asks of a record behind its fields.
@@ -57,6 +58,7 @@ pub enum House {
     RulesOfJ,
     OneId,
     ThreeIds,
+    RulesOfO,
 }
 
 // A record's number in the table, the type of its line, the letter of a detail (0 in other lines),
@@ -131,6 +133,7 @@ pub fn shape_of(which: Record) -> Shape
         Record::SegmentZ => detail(6, b'Z', Phase::BehindZ, Amount::NoAmount, House::NoRules),
         Record::BatchTrailer => trailer(7, LineType::BatchLast, Phase::Closed),
         Record::FileTrailer => trailer(8, LineType::FileLast, Phase::Ended),
+        Record::SegmentO => detail(9, b'O', Phase::Paid, Amount::AmountOfO, House::RulesOfO),
     }
 }
 

@@ -2,6 +2,7 @@
 // Whoever walks fields binds it once and lends it down.
 use super::Record;
 use super::kinds::BARCODE;
+use super::kinds::CODE;
 use super::kinds::D;
 use super::kinds::EXACT_09;
 use super::kinds::EXACT_52;
@@ -24,10 +25,10 @@ use super::shapes::shape_of;
 ghost use mathlib.Core.Path.{_≡_};
 ghost use Rattle.layout.specs.inner.Lent.{spanOf, inColumn, entryIn};
 
-pub const FIELDS: usize = 143;
+pub const FIELDS: usize = 159;
 
 // Where each record's fields begin; the last entry is their number.
-const START: [usize; 10] = [0, 22, 46, 71, 80, 101, 119, 125, 135, 143];
+const START: [usize; 11] = [0, 22, 46, 71, 80, 101, 119, 125, 135, 143, 159];
 
 pub const FROM: [u8; FIELDS] = [
     // File header
@@ -182,6 +183,23 @@ pub const FROM: [u8; FIELDS] = [
     24,
     30,
     36,
+    // O
+    1,
+    4,
+    8,
+    9,
+    14,
+    15,
+    16,
+    18,
+    62,
+    92,
+    100,
+    108,
+    123,
+    143,
+    163,
+    231,
 ];
 
 pub const TO: [u8; FIELDS] = [
@@ -336,6 +354,23 @@ pub const TO: [u8; FIELDS] = [
     23,
     29,
     35,
+    240,
+    // O
+    3,
+    7,
+    8,
+    13,
+    14,
+    15,
+    17,
+    61,
+    91,
+    99,
+    107,
+    122,
+    142,
+    162,
+    230,
     240,
 ];
 
@@ -492,6 +527,23 @@ pub const KIND: [u8; FIELDS] = [
     N,
     N,
     K,
+    // O
+    N,
+    N,
+    b'3',
+    N,
+    b'O',
+    ZERO_NINE,
+    N,
+    CODE,
+    T,
+    D,
+    D,
+    N,
+    T,
+    F,
+    K,
+    O,
 ];
 
 // The fields of a record: the first, and the one past the last.

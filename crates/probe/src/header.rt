@@ -1,6 +1,6 @@
 // The header of a request: op (1), record kind (1, '-' if unused), direction ('1', '2' or '-'), room
 // (6 digits), payload length (6 digits), LF. Record kinds: 0 file header, 1 batch header, A, B, J, 2
-// for J52, Z, 5 batch trailer, 9 file trailer.
+// for J52, O, Z, 5 batch trailer, 9 file trailer.
 use super::MOST_BYTES;
 use digits::Number;
 use layout::Direction;
@@ -18,9 +18,14 @@ pub(crate) const DIGITS: usize = 6;
 
 const END: usize = 15;
 
+// The kind of record that may be a payment by itself.
+pub(crate) const KIND_O: u8 = b'O';
+
 pub(crate) enum Op {
     BarcodeToLine,
     LineToBarcode,
+    CodeToLine,
+    LineToCode,
     ReadRecord(Record, Direction),
     WriteRecord(Record, Direction),
     CheckFile,
@@ -63,6 +68,7 @@ pub(crate) fn record_of(kind: u8) -> Asked {
         b'J' => Asked::Of(Record::SegmentJ),
         b'2' => Asked::Of(Record::SegmentJ52),
         b'Z' => Asked::Of(Record::SegmentZ),
+        KIND_O => Asked::Of(Record::SegmentO),
         b'5' => Asked::Of(Record::BatchTrailer),
         b'9' => Asked::Of(Record::FileTrailer),
         _ => Asked::Unknown,
@@ -105,6 +111,8 @@ fn op_of(op: u8, kind: u8, direction: u8) -> Op {
     match op {
         b'B' => plain_op(Op::BarcodeToLine, kind, direction),
         b'D' => plain_op(Op::LineToBarcode, kind, direction),
+        b'b' => plain_op(Op::CodeToLine, kind, direction),
+        b'd' => plain_op(Op::LineToCode, kind, direction),
         b'C' => record_op(op, kind, direction),
         b'W' => record_op(op, kind, direction),
         b'F' => plain_op(Op::CheckFile, kind, direction),

@@ -4,21 +4,23 @@
 // place`, and for calls with output memory the whole of that memory and LF. A malformed request is
 // answered `NO 0 0 0` alone; a request that is cut short ends the program.
 //
-// B and D turn a barcode and a digit line into each other. C reads a record; its `OK` is followed by
-// a number, or `_` for one that is not given, or `-`, for each field, and by a line with the text. W
-// writes a record: the payload has 20 digits for each field, or 20 blanks for a number that is not
-// given, where it may be, and then the text. F checks a whole file, and its line is the program's. L
-// steps over lines: the payload has calls, each six digits for a length and so many bytes; there is a
-// line for each call, and then one for the end, as of F. T takes a file in parts: the payload has
-// steps, each a part, `+` and then as a call of L, or the end, `.`; there is a line for each step, of
-// an end as of F, and then `AT` and how many lines were accepted.
+// B and D turn a barcode and a digit line into each other, b and d a collection code and its line.
+//
+// C reads a record; its `OK` is followed by a number, or `_` for one that is not given, or `-`, for
+// each field, and by a line with the text. W writes a record: the payload has 20 digits for each
+// field, or 20 blanks for a number that is not given, where it may be, and then the text. F checks a
+// whole file, and its line is the program's. L steps over lines: the payload has calls, each six
+// digits for a length and so many bytes; there is a line for each call, and then one for the end, as
+// of F. T takes a file in parts: the payload has steps, each a part, `+` and then as a call of L, or
+// the end, `.`; there is a line for each step, of an end as of F, and then `AT` and how many lines
+// were accepted.
 //
 // P writes a file: the payload is a script of the writer's calls. A call is a letter (O opens the
 // file, L a batch, P pays, C closes the batch, E the file), a digit for the number of its records (1,
-// of a payment 2 or 3), and the records, each its kind, 32 numbers as of W and 240 bytes of text.
-// Two more steps are no calls: M and six digits, from where on calls are lent so many bytes of the
-// output memory, or all it has; X and a byte, with which the whole of it is overwritten. There is a
-// line for each call, of an accepted E as of F, and then the output memory.
+// of a payment 1, which is an O, 2 or 3), and the records, each its kind, 32 numbers as of W and 240
+// bytes of text. Two more steps are no calls: M and six digits, from where on calls are lent so many
+// bytes of the output memory, or all it has; X and a byte, with which the whole of it is overwritten.
+// There is a line for each call, of an accepted E as of F, and then the output memory.
 mod header;
 mod parts;
 mod print;
@@ -26,6 +28,7 @@ mod records;
 mod scripts;
 mod whole;
 
+use boleto::collection;
 use header::Op;
 use libc::STDIN_FILENO;
 ghost use mathlib.Core.Path.{_≡_};
@@ -57,6 +60,8 @@ fn call(op: Op, payload: &[u8], out: &mut [u8]) {
     match op {
         Op::BarcodeToLine => print::memory(boleto::barcode_to_line(payload, out), out),
         Op::LineToBarcode => print::memory(boleto::line_to_barcode(payload, out), out),
+        Op::CodeToLine => print::memory(collection::code_to_line(payload, out), out),
+        Op::LineToCode => print::memory(collection::line_to_code(payload, out), out),
         Op::ReadRecord(which, dir) => records::read(payload, which, dir),
         Op::WriteRecord(which, dir) => records::write(payload, which, dir, out),
         Op::CheckFile => whole::check(payload),

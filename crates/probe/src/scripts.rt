@@ -32,11 +32,17 @@ const LEND_BYTES: usize = 7;
 
 const OVERWRITE_BYTES: usize = 2;
 
+// How many records a payment has.
+enum Count {
+    One,
+    Two,
+    Three,
+}
+
 enum Call {
     OpenFile,
     OpenBatch,
-    // With a third record, or without.
-    Pay(bool),
+    Pay(Count),
     CloseBatch,
     CloseFile,
 }
@@ -71,8 +77,9 @@ fn one_record(call: Call, count: u8) -> Step {
 
 fn payment(count: u8) -> Step {
     match count {
-        b'2' => Step::Call(Call::Pay(false)),
-        b'3' => Step::Call(Call::Pay(true)),
+        b'1' => Step::Call(Call::Pay(Count::One)),
+        b'2' => Step::Call(Call::Pay(Count::Two)),
+        b'3' => Step::Call(Call::Pay(Count::Three)),
         _ => Step::Unknown,
     }
 }
@@ -107,13 +114,23 @@ fn step_of(payload: &[u8], at: usize) -> Step
     }
 }
 
+fn records_in(count: Count) -> usize
+    ensures { λ r. ⌜ r ≤ mostRecords ⌝ }
+{
+    match count {
+        Count::One => 1,
+        Count::Two => 2,
+        Count::Three => 3,
+    }
+}
+
 fn count_of(call: Call) -> usize
     ensures { λ r. ⌜ r ≤ mostRecords ⌝ }
 {
     match call {
         Call::OpenFile => 1,
         Call::OpenBatch => 1,
-        Call::Pay(triple) => if triple { 3 } else { 2 },
+        Call::Pay(count) => records_in(count),
         Call::CloseBatch => 1,
         Call::CloseFile => 1,
     }
@@ -195,9 +212,32 @@ fn are_records(call: &[u8], count: usize) -> bool
     true
 }
 
+// A payment of one record is an O.
+fn may_stand_alone(call: &[u8]) -> bool {
+    HEAD < call.len() && call[HEAD] == header::KIND_O
+}
+
+fn is_payment(count: Count, call: &[u8]) -> bool {
+    match count {
+        Count::One => may_stand_alone(call),
+        Count::Two => true,
+        Count::Three => true,
+    }
+}
+
+fn is_call(call: Call, bytes: &[u8]) -> bool {
+    match call {
+        Call::OpenFile => true,
+        Call::OpenBatch => true,
+        Call::Pay(count) => is_payment(count, bytes),
+        Call::CloseBatch => true,
+        Call::CloseFile => true,
+    }
+}
+
 fn is_right(step: Step, bytes: &[u8]) -> bool {
     match step {
-        Step::Call(call) => are_records(bytes, count_of(call)),
+        Step::Call(call) => is_call(call, bytes) && are_records(bytes, count_of(call)),
         Step::Lend(_) => true,
         Step::Overwrite(_) => true,
         Step::Unknown => false,
@@ -239,13 +279,12 @@ fn only_fields(call: &[u8], which: Record) -> Fields {
     }
 }
 
-fn payment_of(call: &[u8], triple: bool) -> Payment {
+fn payment_of(call: &[u8], count: Count) -> Payment {
     let first = detail(call, 0);
-    let second = detail(call, 1);
-    if triple {
-        Payment::of_three(first, second, detail(call, 2))
-    } else {
-        Payment::of_two(first, second)
+    match count {
+        Count::One => Payment::of_one(first),
+        Count::Two => Payment::of_two(first, detail(call, 1)),
+        Count::Three => Payment::of_three(first, detail(call, 1), detail(call, 2)),
     }
 }
 
@@ -253,7 +292,7 @@ fn make_call(state: Writer, call: Call, bytes: &[u8], out: &mut [u8]) -> Written
     match call {
         Call::OpenFile => state.open_file(only_fields(bytes, Record::FileHeader), out),
         Call::OpenBatch => state.open_batch(only_fields(bytes, Record::BatchHeader), out),
-        Call::Pay(triple) => state.payment(payment_of(bytes, triple), out),
+        Call::Pay(count) => state.payment(payment_of(bytes, count), out),
         Call::CloseBatch => state.close_batch(only_fields(bytes, Record::BatchTrailer), out),
         Call::CloseFile => state.close_file(only_fields(bytes, Record::FileTrailer), out),
     }

@@ -12,8 +12,8 @@ use Rattle.answer.specs.Output.{Writes}
 use Rattle.answer.specs.declared.Refusal.{Refusal}
 use Rattle.answer.specs.declared.Answer.{Answer}
 use Rattle.answer.specs.declared.Answer.the-variants.{Accepted, Refused}
-use Rattle.boleto.specs.Strings.{barcodeDigits, lineDigits, currencyPlace, barcodeCheck, lineCheck, barcodeOf, digitLineOf}
-use Rattle.boleto.specs.Rules.{barcodeRules, digitLineRules}
+use Rattle.boleto.specs.Strings.{currencyPlace, barcodeCheck, lineCheck}
+use Rattle.boleto.specs.Collection.{codeLineDigits, productPlace, identifierPlace, codeCheck}
 use Rattle.layout.specs.Pairs.{among}
 use Rattle.layout.specs.Field.{Field}
 use Rattle.layout.specs.Table.{recordBytes, typePlace, segmentPlace, bankField, batchField, numberField, batchRecords, batchSum, fileRecords, all, holderId, payerId, payeeId, guarantorId}
@@ -23,7 +23,7 @@ use Rattle.layout.specs.declared.Direction.{Direction}
 use Rattle.layout.specs.declared.Record.{Record}
 use Rattle.fields.specs.Values.{recordOf, readRecord, noFields}
 use Rattle.fields.specs.declared.Fields.{Fields}
-use Rattle.checker.specs.Line.{lineBytes, generalPlace, factorPlace, centsPlace}
+use Rattle.checker.specs.Line.{lineBytes, generalPlace, factorPlace, centsPlace, codePlace}
 use Rattle.checker.specs.Machine.{start, lineOf, stepOf}
 use Rattle.files.specs.File.{linesOf, endOf, checkFile}
 use Rattle.files.specs.Parts.{arrived, partCall, endCall}
@@ -41,6 +41,7 @@ use Rattle.writer.specs.Outcome.{newWriter, Wrote}
 use Rattle.writer.specs.Calls.{AllWhole, Lent, WholeCalls, left}
 use Rattle.writer.specs.declared.Writer.{Writer}
 use Rattle.writer.specs.declared.Written.{Written}
+use Rattle.promises.specs.Strings.{Family}
 
 -- ---- the table
 
@@ -63,7 +64,7 @@ row number places = record { number = number; places = places }
 abbrev pub nowhere : Places
 nowhere = at (0 ∷ [])
 
--- the rows in the paper's order. 4 names a byte of a record, and 41 a digit of a string, which has 47 at most; 14 names the currency's place 21
+-- the rows in the paper's order. 4 names a byte of a record, and 41 a digit of a string, which has 48 at most; 14 names the currency's place 21
 -- of a barcode field too, and a field of A begins there; 23 names no place in the writer
 unfoldable pub table : List Row
 table =
@@ -92,11 +93,15 @@ table =
     ∷ row 23 (at (batchSum .from ∷ 0 ∷ []))
     ∷ row 25 nowhere
     ∷ row 26 (at (holderId .from ∷ payerId .from ∷ payeeId .from ∷ guarantorId .from ∷ []))
-    ∷ row 40 nowhere ∷ row 41 (upTo lineDigits)
+    ∷ row 40 nowhere ∷ row 41 (upTo codeLineDigits)
     ∷ row 42 (at (10 ∷ 21 ∷ 32 ∷ []))
     ∷ row 43 (at (currencyPlace ∷ [])) ∷ row 44 (at (lineCheck ∷ barcodeCheck ∷ []))
     ∷ row 50 nowhere
     ∷ row 51 nowhere
+    ∷ row 52 (at (productPlace ∷ codePlace productPlace ∷ []))
+    ∷ row 53 (at (identifierPlace ∷ codePlace identifierPlace ∷ []))
+    ∷ row 54 (at (12 ∷ 24 ∷ 36 ∷ 48 ∷ []))
+    ∷ row 55 (at (codeCheck ∷ codePlace codeCheck ∷ []))
     ∷ []
 
 -- one of these fields begins at the place
@@ -197,11 +202,11 @@ pub record RecordCalls (r : Record) (d : Direction) : Type 0 where
   pub write : (v : Fields) {out after : List ℕ} {a : Answer} → Writes (recordRules r d (recordOf r v)) recordBytes (recordOf r v) out a after
       → Ends out after OnNoLine a
 
--- calls with digit strings: the check of a barcode and of a digit line, and the conversion of each into the other, which might change the output
-pub record StringCalls : Type 0 where
-  pub check-barcode : (bar : List ℕ) → Ends nothing nothing OnNoLine (firstBroken (barcodeRules bar))
-  pub check-digit-line : (line : List ℕ) → Ends nothing nothing OnNoLine (firstBroken (digitLineRules line))
-  pub to-line : (bar : List ℕ) {out after : List ℕ} {a : Answer} → Writes (barcodeRules bar) lineDigits (digitLineOf bar) out a after
+-- calls with digit strings of a family: the check of a code and of a line, and the conversion of each into the other, which might change the output
+pub record StringCalls (f : Family) : Type 0 where
+  pub check-code : (code : List ℕ) → Ends nothing nothing OnNoLine (firstBroken (f .codeRules code))
+  pub check-line : (line : List ℕ) → Ends nothing nothing OnNoLine (firstBroken (f .lineRules line))
+  pub to-line : (code : List ℕ) {out after : List ℕ} {a : Answer} → Writes (f .codeRules code) (f .lineDigits) (f .lineOf code) out a after
       → Ends out after OnNoLine a
-  pub to-barcode : (line : List ℕ) {out after : List ℕ} {a : Answer} → Writes (digitLineRules line) barcodeDigits (barcodeOf line) out a after
+  pub to-code : (line : List ℕ) {out after : List ℕ} {a : Answer} → Writes (f .lineRules line) (f .codeDigits) (f .codeOf line) out a after
       → Ends out after OnNoLine a

@@ -11,8 +11,6 @@ use Rattle.answer.specs.declared.Refusal.{Refusal}
 use Rattle.answer.specs.declared.Answer.{Answer}
 use Rattle.answer.specs.declared.Answer.the-variants as answer
 use Rattle.digits.specs.Digits.{place}
-use Rattle.boleto.specs.Strings.{barcodeDigits, lineDigits}
-use Rattle.boleto.specs.Rules.{barcodeRules, digitLineRules}
 use Rattle.checker.specs.Machine.{start}
 use Rattle.files.specs.File.{linesOf, steps, outOfTurn, checkFile}
 use Rattle.files.specs.Parts.{arrived, answerIn, statusBehind}
@@ -26,6 +24,7 @@ use Rattle.writer.specs.Given.{Call}
 use Rattle.writer.specs.Outcome.{newWriter, answerOf}
 use Rattle.writer.specs.Calls.{Lent, WholeCalls, stateBehind, left, fileOf, putIn, lentOn}
 use Rattle.writer.specs.declared.Writer.{Writer}
+use Rattle.promises.specs.Strings.{Family}
 use Rattle.promises.specs.Grammar.{Meets}
 use Rattle.promises.specs.Guarded.{lineAt, GuardedIn, changed}
 
@@ -117,11 +116,11 @@ WriterDemand2 w = (cs : List Call) (out : List ℕ) → WholeCalls (lentFirst cs
 
 -- ---- digit converters: a string, and an output that is lent; the answer, and the output afterwards
 
--- with room, a barcode whose rules are kept is accepted, and what is written is turned into that barcode again; the same from a line
-pub record ConverterDemand2 (toLine toBarcode : List ℕ → List ℕ → Answer × List ℕ) : Type 0 where
-  pub from-barcode : (bar out other : List ℕ) → AllKept (barcodeRules bar) → lineDigits ≤ length out → barcodeDigits ≤ length other
-      → let there = toLine bar out in let back = toBarcode (take lineDigits (there .1)) other in
-      (there .0 ≡ answer.Accepted) × (back .0 ≡ answer.Accepted) × (take barcodeDigits (back .1) ≡ bar)
-  pub from-line : (line out other : List ℕ) → AllKept (digitLineRules line) → barcodeDigits ≤ length out → lineDigits ≤ length other
-      → let there = toBarcode line out in let back = toLine (take barcodeDigits (there .1)) other in
-      (there .0 ≡ answer.Accepted) × (back .0 ≡ answer.Accepted) × (take lineDigits (back .1) ≡ line)
+-- with room, a code of the family whose rules are kept is accepted, its line is written, and that is turned into the code again; the same from a line
+pub record ConverterDemand2 (f : Family) (toLine toCode : List ℕ → List ℕ → Answer × List ℕ) : Type 0 where
+  pub from-code : (code out other : List ℕ) → AllKept (f .codeRules code) → f .lineDigits ≤ length out → f .codeDigits ≤ length other
+      → let there = toLine code out in let back = toCode (take (f .lineDigits) (there .1)) other in
+      (there .0 ≡ answer.Accepted) × (take (f .lineDigits) (there .1) ≡ f .lineOf code) × (back .0 ≡ answer.Accepted) × (take (f .codeDigits) (back .1) ≡ code)
+  pub from-line : (line out other : List ℕ) → AllKept (f .lineRules line) → f .codeDigits ≤ length out → f .lineDigits ≤ length other
+      → let there = toCode line out in let back = toLine (take (f .codeDigits) (there .1)) other in
+      (there .0 ≡ answer.Accepted) × (take (f .codeDigits) (there .1) ≡ f .codeOf line) × (back .0 ≡ answer.Accepted) × (take (f .lineDigits) (back .1) ≡ line)

@@ -28,7 +28,7 @@ use Rattle.checker.specs.declared.totals.Totals.{Totals}
 -- ---- a line
 
 -- right by itself: 240 printable bytes with CR and LF behind them, every field of the record, and the house rules: right
--- registration numbers, and what is asked of a boleto
+-- registration numbers, and what is asked of a boleto and of a collection code
 pub record RightLine (r : Record) (d : Direction) (l : List ℕ) : Type 0 where
   pub long : length (recordIn l) ≡ recordBytes
   pub ended : l ≡ lineFrom (recordIn l)

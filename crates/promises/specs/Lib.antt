@@ -1,4 +1,5 @@
 pub mod Examples
+pub mod Strings
 pub mod Calls
 pub mod Grammar
 pub mod Refusals

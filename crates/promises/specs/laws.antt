@@ -20,6 +20,8 @@ pub mod Listed
 pub mod Change
 pub mod EveryLine
 pub mod AcceptedFiles
+pub mod Trials
+pub mod CollectionFiles
 pub mod IdFiles
 pub mod Ways
 pub mod SecondBatch
@@ -31,3 +33,4 @@ pub mod Ahead
 pub mod Rewritten
 pub mod WrittenFile
 pub mod IdCalls
+pub mod CollectionCalls

@@ -1,7 +1,7 @@
-// Writes a small remittance, a credit batch and a boleto batch of one payment each, reads it back as
-// the bank would, and prints the reader's line: `OK batches records payments cents payments cents`, the
-// live payments before the withdrawn ones. If a call is refused, its line is printed instead: `NO number
-// line place`.
+// Writes a small remittance, a batch of credits, one of boletos and one of bills with one payment each,
+// reads it back as the bank would, and prints the reader's line: `OK batches records payments cents
+// payments cents`, the live payments before the withdrawn ones. If a call is refused, its line is
+// printed instead: `NO number line place`.
 mod records;
 
 use checker::LINE_BYTES;
@@ -12,8 +12,9 @@ use writer::Payment;
 use writer::Writer;
 use writer::Written;
 
-// The headers and trailers of the file and of two batches, and two payments of two records.
-const LINES: usize = 10;
+// The headers and trailers of the file and of three batches, two payments of two records, and one of
+// one.
+const LINES: usize = 13;
 
 const FILE_BYTES: usize = LINES * LINE_BYTES;
 
@@ -54,6 +55,11 @@ fn write_file(out: &mut [u8]) -> Written {
         return boletos;
     }
     let state = boletos.state;
+    let bills = write_batch(state, records::bill_header(), records::bill(), out);
+    if is_refused(bills) {
+        return bills;
+    }
+    let state = bills.state;
     state.close_file(Fields::blank(Record::FileTrailer), out)
 }
 

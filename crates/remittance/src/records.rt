@@ -28,6 +28,10 @@ const BOLETOS: u64 = 3;
 
 const OTHER_BANKS: u64 = 31;
 
+const BILLS: u64 = 29;
+
+const WITH_A_CODE: u64 = 11;
+
 const PAYEE_BANK: u64 = 1;
 
 const PAYEE_BRANCH: u64 = 1234;
@@ -45,6 +49,10 @@ const DISCOUNT: Cents = Cents(2500);
 const BOLETO: Cents = Cents(NOMINAL.0 - DISCOUNT.0);
 
 const DUE: u64 = 15122026;
+
+const WATER: Cents = Cents(18742);
+
+const WATER_DUE: u64 = 20112026;
 
 pub(crate) fn file_header() -> Fields {
     Fields::blank(Record::FileHeader)
@@ -74,6 +82,10 @@ pub(crate) fn credit_header() -> Fields {
 
 pub(crate) fn boleto_header() -> Fields {
     batch_header(BOLETOS, OTHER_BANKS)
+}
+
+pub(crate) fn bill_header() -> Fields {
+    batch_header(BILLS, WITH_A_CODE)
 }
 
 // Who is paid how much, and when.
@@ -124,10 +136,29 @@ fn segment_j52() -> Fields {
         .with_text(names::J52_GUARANTOR_ID, b"000000000000000")
 }
 
+// The water bill, by its collection code: 44 digits, which `boleto::collection::line_to_code` gives for
+// the 48 that people type.
+fn segment_o() -> Fields {
+    Fields::blank(Record::SegmentO)
+        .with_text(
+            names::O_CODE,
+            b"82670000001874212342026112000000045678900001",
+        )
+        .with_text(names::O_PAYEE, b"AGUAS DO VALE SA")
+        .with_number(names::O_DUE, WATER_DUE)
+        .with_number(names::O_DATE, TODAY)
+        .with_cents(names::O_AMOUNT, WATER)
+        .with_text(names::O_OUR_NUMBER, b"CONTA 000001")
+}
+
 pub(crate) fn credit() -> Payment {
     Payment::of_two(segment_a(), segment_b())
 }
 
 pub(crate) fn boleto() -> Payment {
     Payment::of_two(segment_j(), segment_j52())
+}
+
+pub(crate) fn bill() -> Payment {
+    Payment::of_one(segment_o())
 }

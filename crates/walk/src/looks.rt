@@ -83,6 +83,7 @@ fn pair(rec: &[u8], dir: Direction) -> Answer
         Batch::Credit => Answer::Accepted,
         Batch::Boleto => Answer::Accepted,
         Batch::Unknown => Answer::refused(numbers::DOMAIN, places::SERVICE_FROM),
+        Batch::Collection => Answer::Accepted,
     }
 }
 
@@ -184,6 +185,7 @@ pub(crate) fn look_at(k: u8, dir: Direction, part: &[u8], rec: &[u8], place: usi
         kinds::FORM => Look::Tested(Answer::Accepted),
         kinds::BARCODE => Look::Tested(barcode(part, place)),
         kinds::N_OR_BLANK => number_or_blank(part),
+        kinds::CODE => Look::Digits,
         _ => Look::Tested(Answer::Accepted),
     }
 }

@@ -76,6 +76,15 @@ const FILE_TRAILER_LOW: [u8; RECORD_BYTES] =
 const FILE_TRAILER_HIGH: [u8; RECORD_BYTES] =
     *b"99999999         999999999999999999                                                                                                                                                                                                             ";
 
+const O_LOW: [u8; RECORD_BYTES] =
+    *b"0000000300000O 0000000000000000000000000000000000000000000000                                              000000000000000                                                                                                                      ";
+
+const O_HIGH: [u8; RECORD_BYTES] =
+    *b"9999999399999O~9999999999999999999999999999999999999999999999~~~~~~~~~~~~~~~~~~~~~~~~~~~~~~~~~~~~~~~~~~~~~~999999999999999~~~~~~~~~~~~~~~~~~~~~~~~~~~~~~~~~~~~~~~~                                                                              ";
+
+const O_HIGH_RETURN: [u8; RECORD_BYTES] =
+    *b"9999999399999O~9999999999999999999999999999999999999999999999~~~~~~~~~~~~~~~~~~~~~~~~~~~~~~~~~~~~~~~~~~~~~~999999999999999~~~~~~~~~~~~~~~~~~~~~~~~~~~~~~~~~~~~~~~~                                                                    ~~~~~~~~~~";
+
 // Yes or no, without an early exit: the compiler looks at many bytes at once.
 fn fits(low: &[u8; RECORD_BYTES], high: &[u8; RECORD_BYTES], rec: &[u8]) -> bool
     requires { ⌜ length (now rec) ≡ recordBytes ⌝ }
@@ -118,5 +127,9 @@ pub(crate) fn hold(rec: &[u8], which: Record, dir: Direction) -> bool
             Direction::Return => fits(&BATCH_TRAILER_LOW, &BATCH_TRAILER_HIGH_RETURN, rec),
         },
         Record::FileTrailer => fits(&FILE_TRAILER_LOW, &FILE_TRAILER_HIGH, rec),
+        Record::SegmentO => match dir {
+            Direction::Remittance => fits(&O_LOW, &O_HIGH, rec),
+            Direction::Return => fits(&O_LOW, &O_HIGH_RETURN, rec),
+        },
     }
 }

@@ -36,7 +36,7 @@ use Rattle.fields.specs.Values.{Whole}
 use Rattle.writer.specs.Given.{recordsIn}
 use Rattle.writer.proofs.Lent.{lines-and}
 use Rattle.layout.specs.laws.Records.{itself}
-use Rattle.writer.specs.laws.Given.{enough, from-position}
+use Rattle.writer.specs.laws.Given.{some-few, from-position}
 use Rattle.writer.specs.laws.Paying.{Inside, before, inside-next, drop-one}
 use Rattle.filling.specs.laws.Filled.{filled-which}
 use Rattle.writer.specs.laws.Lines.{full-text}
@@ -200,7 +200,7 @@ module _ {s t : Checker} {p : Payment} {made : List Made} {k : ℕ} (h : Going s
     unfolding behindAll linesFor
     going-on e =
         let m = x .made in
-        let short : k < length made = omega (arith, h .long, enough p) in
+        let short : k < length made = omega (arith, h .long, some-few p) in
         let taken = take-suc-set made k m short in
         let on : Going s p (set made k m) (nextBy t g) (suc k) = record {
           behind = omega arith;

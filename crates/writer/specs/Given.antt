@@ -9,16 +9,19 @@ use Rattle.layout.specs.Records.{amountsOf}
 use Rattle.layout.specs.Table.{movementField}
 use Rattle.layout.specs.Names.{indexOf}
 use Rattle.layout.specs.declared.Record.{Record}
-use Rattle.layout.specs.declared.Record.the-variants.{FileHeader, BatchHeader, SegmentZ, BatchTrailer, FileTrailer}
+use Rattle.layout.specs.declared.Record.the-variants.{FileHeader, BatchHeader, SegmentZ, BatchTrailer, FileTrailer, SegmentO}
 use Rattle.fields.specs.Values.{noFields, takenAs, nth, orZero}
 use Rattle.fields.specs.declared.Fields.{Fields}
 use Rattle.checker.specs.Totals.{tally, live, withdrawn, totals, withdrawal, only}
 use Rattle.checker.specs.declared.totals.Totals.{Totals}
 use Rattle.writer.specs.declared.given.Count.{Count}
-use Rattle.writer.specs.declared.given.Count.the-variants.{Two, Three}
+use Rattle.writer.specs.declared.given.Count.the-variants.{Two, Three, One}
 use Rattle.writer.specs.declared.given.Payment.{Payment}
 
--- two records, or three
+-- one record, an O; two records; or three
+abbrev pub one : Fields → Payment
+one a = record { first = a; second = noFields SegmentZ; third = noFields SegmentZ; count = One }
+
 abbrev pub two : Fields → Fields → Payment
 two a b = record { first = a; second = b; third = noFields SegmentZ; count = Two }
 
@@ -28,9 +31,19 @@ three a b c = record { first = a; second = b; third = c; count = Three }
 abbrev pub many : Count → ℕ
 many Two = 2
 many Three = 3
+many One = 1
+
+-- the first; alone it is an O, and fields of another record are taken as spoiled
+abbrev pub firstAs : Count → Fields → Fields
+firstAs Two v = v
+firstAs Three v = v
+firstAs One v = takenAs SegmentO v
+
+abbrev pub firstIn : Payment → Fields
+firstIn p = firstAs (p .count) (p .first)
 
 abbrev pub recordsIn : Payment → List Fields
-recordsIn p = take (many (p .count)) (p .first ∷ p .second ∷ p .third ∷ [])
+recordsIn p = take (many (p .count)) (firstIn p ∷ p .second ∷ p .third ∷ [])
 
 pub data Call : Type 0 where
   openFile : Fields → Call
@@ -58,14 +71,14 @@ abbrev pub amountOf : Record → Fields → ℕ
 amountOf r v = givenIn r (amountsOf r) v
 
 abbrev pub amountIn : Payment → ℕ
-amountIn p = amountOf (p .first .which) (p .first)
+amountIn p = amountOf (firstIn p .which) (firstIn p)
 
 -- movement 9 withdraws it
 abbrev pub withdrawsAs : Record → Fields → Bool
 withdrawsAs r v = eqb (orZero (nth (indexOf r movementField) v)) withdrawal
 
 abbrev pub isWithdrawn : Payment → Bool
-isWithdrawn p = withdrawsAs (p .first .which) (p .first)
+isWithdrawn p = withdrawsAs (firstIn p .which) (firstIn p)
 
 -- what a payment puts in: its records, and itself with its amount, live or withdrawn
 abbrev pub onePayment : ℕ → Bool → ℕ → Totals

@@ -100,7 +100,7 @@ turnLimits (pay p) s = turnRule (turns (s .phase) .payment) ∷ paymentLimits (l
 turnLimits (closeBatch v) s = turnRule (turns (s .phase) .trailer) ∷ []
 turnLimits (closeFile v) s = turnRule (turns (s .phase) .end) ∷ []
 
--- ---- record by record the reader's 4, 11, fields, 26 and 16 to 19
+-- ---- record by record the reader's 4, 11, fields and house rules: 26; 16 to 19; 52, 53 and 55
 
 -- behind a payment, in a return
 abbrev pub zIn : Direction → List Record

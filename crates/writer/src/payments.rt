@@ -85,6 +85,7 @@ fn amount_of(v: Fields) -> Cents
         Amount::NoAmount => Cents(0),
         Amount::AmountOfA => cents_at(v, names::A_AMOUNT),
         Amount::AmountOfJ => cents_at(v, names::J_AMOUNT),
+        Amount::AmountOfO => cents_at(v, names::O_AMOUNT),
     }
 }
 
@@ -157,7 +158,7 @@ pub(crate) fn check_sum(m: Checker, p: Payment) -> Answer
     requires { ⌜ sound m ≡ true ⌝ }
     ensures { λ r. ⌜ r ≡ firstBroken (sumRule m p ∷ []) ⌝ }
 {
-    let first = p.first;
+    let first = p.first_record();
     let paid = m.closed().cents().plus(m.current().cents());
     let fits = paid.fit_a_file(amount_of(first));
     Answer::test(numbers::FILE_SUM, 0, fits)

@@ -46,7 +46,7 @@ fn line_of(made: Made) -> [u8; LINE_BYTES]
 }
 
 // A record in a state: nothing is written yet. The checker reads the line as any other: there is no
-// other way to the state behind it. What it refuses then is what the house asks, 26 and 16 to 19.
+// other way to the state behind it. What it refuses then is what the house asks.
 pub(crate) fn try_record(m: Checker, expected: bool, v: Fields) -> Tried
     requires { ⌜ MayTry expected (v .which) m ⌝ }
     ensures { λ r. ⌜ Tries expected m v r ⌝ }

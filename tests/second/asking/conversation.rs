@@ -58,6 +58,8 @@ fn rest_behind(first_line: &[u8], request: &Request) -> Rest {
     match call {
         Call::BarcodeToLine { room }
         | Call::LineToBarcode { room }
+        | Call::CodeToLine { room }
+        | Call::CodeLineToCode { room }
         | Call::WriteRecord { room, .. } => Rest::memory(room),
         Call::ReadRecord { .. } if first_line.starts_with(ACCEPTED.as_bytes()) => {
             Rest::memory(RECORD_BYTES)

@@ -3,6 +3,7 @@
 
 use crate::asking::part_calls::{self, PartMisfit};
 use crate::asking::writer_script::{self, Misfit, Step};
+use crate::paper::collection_codes::CodeConversion;
 use crate::paper::digit_strings::Conversion;
 use crate::paper::parts::PartCall;
 use crate::paper::record_kinds::{all_subjects, RecordKind, Subject};
@@ -37,9 +38,11 @@ pub enum Op {
     CheckLines,
     WriteFile,
     CheckParts,
+    CodeToLine,
+    CodeLineToCode,
 }
 
-pub const OPS: [Op; 8] = [
+pub const OPS: [Op; 10] = [
     Op::BarcodeToLine,
     Op::LineToBarcode,
     Op::ReadRecord,
@@ -48,6 +51,8 @@ pub const OPS: [Op; 8] = [
     Op::CheckLines,
     Op::WriteFile,
     Op::CheckParts,
+    Op::CodeToLine,
+    Op::CodeLineToCode,
 ];
 
 impl Op {
@@ -61,6 +66,8 @@ impl Op {
             Op::CheckLines => b'L',
             Op::WriteFile => b'P',
             Op::CheckParts => b'T',
+            Op::CodeToLine => b'b',
+            Op::CodeLineToCode => b'd',
         }
     }
 
@@ -78,6 +85,15 @@ impl Conversion {
     }
 }
 
+impl CodeConversion {
+    pub fn op(self) -> Op {
+        match self {
+            CodeConversion::CodeToLine => Op::CodeToLine,
+            CodeConversion::LineToCode => Op::CodeLineToCode,
+        }
+    }
+}
+
 impl RecordKind {
     /// How a request's header names the kind.
     pub fn code(self) -> u8 {
@@ -88,6 +104,7 @@ impl RecordKind {
             RecordKind::B => b'B',
             RecordKind::J => b'J',
             RecordKind::J52 => b'2',
+            RecordKind::O => b'O',
             RecordKind::Z => b'Z',
             RecordKind::BatchTrailer => b'5',
             RecordKind::FileTrailer => b'9',
@@ -126,6 +143,8 @@ pub enum Call {
     CheckLines,
     WriteFile { room: usize },
     CheckParts,
+    CodeToLine { room: usize },
+    CodeLineToCode { room: usize },
 }
 
 pub fn header(op: u8, direction: u8, room: usize, length: usize) -> Header {
@@ -201,6 +220,10 @@ impl Request {
             Op::CheckLines => self.names_no_record().then_some(Call::CheckLines),
             Op::WriteFile => self.names_no_record().then_some(Call::WriteFile { room }),
             Op::CheckParts => self.names_no_record().then_some(Call::CheckParts),
+            Op::CodeToLine => self.names_no_record().then_some(Call::CodeToLine { room }),
+            Op::CodeLineToCode => self
+                .names_no_record()
+                .then_some(Call::CodeLineToCode { room }),
         }
     }
 

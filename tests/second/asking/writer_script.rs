@@ -34,7 +34,7 @@ impl CallKind {
     /// How many records the call may have, as the script says it.
     fn counts(self) -> &'static [u8] {
         match self {
-            CallKind::Payment => b"23",
+            CallKind::Payment => b"123",
             _ => b"1",
         }
     }
@@ -54,6 +54,8 @@ pub enum Step {
 pub enum Misfit {
     UnknownLetter,
     WrongCount,
+    /// A payment of one record that is no O.
+    AloneWithoutO,
     UnknownKind,
     /// The kind is the one that the caller names, by its code.
     NoNumber {
@@ -67,9 +69,10 @@ pub enum Misfit {
 }
 
 /// Those about numbers, which are several, stand elsewhere.
-pub const OTHER_MISFITS: [Misfit; 6] = [
+pub const OTHER_MISFITS: [Misfit; 7] = [
     Misfit::UnknownLetter,
     Misfit::WrongCount,
+    Misfit::AloneWithoutO,
     Misfit::UnknownKind,
     Misfit::CutShort,
     Misfit::NoBytesToLend,
@@ -150,6 +153,14 @@ pub fn from_payload(payload: &[u8]) -> Result<Vec<Step>, Misfit> {
     Ok(script)
 }
 
+/// Only an O is a payment alone; two or three records may be of any kinds.
+fn may_be_payment(records: &[GivenRecord]) -> bool {
+    match records {
+        [only] => only.kind == RecordKind::O,
+        _ => true,
+    }
+}
+
 /// What is left of a payload.
 struct Rest<'a> {
     bytes: &'a [u8],
@@ -189,7 +200,10 @@ impl<'a> Rest<'a> {
             return Err(Misfit::WrongCount);
         }
         let records = (0..count - b'0').map(|_| self.record());
-        let records = records.collect::<Result<_, _>>()?;
+        let records = records.collect::<Result<Vec<_>, _>>()?;
+        if kind == CallKind::Payment && !may_be_payment(&records) {
+            return Err(Misfit::AloneWithoutO);
+        }
         Ok(WriterCall { kind, records })
     }
 

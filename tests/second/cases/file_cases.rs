@@ -204,11 +204,8 @@ impl FileCases<'_> {
 
     fn file_with(&mut self, subject: Subject) -> MadeFile {
         loop {
-            let kind = match subject.kind {
-                RecordKind::A | RecordKind::B => BatchKind::Credit,
-                RecordKind::J | RecordKind::J52 => BatchKind::Boleto,
-                _ => self.random.pick(&BATCH_KINDS),
-            };
+            let kind = BatchKind::with_record(subject.kind);
+            let kind = kind.unwrap_or_else(|| self.random.pick(&BATCH_KINDS));
             let batches = (0..self.random.between(1, MOST_BATCHES)).map(|_| BatchShape {
                 kind,
                 payments: self.random.between(1, MOST_PAYMENTS),

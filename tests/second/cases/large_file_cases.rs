@@ -176,8 +176,7 @@ pub fn large_sum(
         left -= payments;
     }
     let mut file = file_of(cases.random, direction, &shapes);
-    let firsts = [RecordKind::A, RecordKind::J];
-    let mut payments: Vec<usize> = firsts.iter().flat_map(|k| file.positions(*k)).collect();
+    let mut payments = file.payments();
     let last_payment = payments.pop();
     for at in payments {
         put_amount(&mut file.lines[at], LARGEST_AMOUNT);

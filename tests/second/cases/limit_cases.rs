@@ -4,9 +4,9 @@ use std::io;
 
 use crate::making::good_files::{LARGEST_AMOUNT, LARGEST_PAYMENTS, MISSING_CENTS};
 use crate::making::limit_files::{
-    add_batch, add_batch_of, add_payments, batches, changed_payment, cut, one_batch, one_boleto,
-    one_credit, one_due, payments_and_another, payments_in_turn, two_batches, BYTES_OF_270_LINES,
-    FULL_BILL, MORE_PAYMENTS, PAYMENTS_IN_270_LINES,
+    add_batch, add_batch_of, add_payments, batches, changed_payment, cut, many_collections,
+    one_batch, one_boleto, one_credit, one_due, payments_and_another, payments_in_turn,
+    two_batches, BYTES_OF_270_LINES, FULL_BILL, MORE_PAYMENTS, PAYMENTS_IN_270_LINES,
 };
 use crate::making::movements::put_movement;
 use crate::making::plain_files::{self, PlainFile, HUNDRED};
@@ -46,6 +46,7 @@ fn case(name: &'static str, demanded: &'static str, write: Write) -> Case {
 pub fn all() -> Vec<Case> {
     let mut cases = small_files();
     cases.extend(registrations());
+    cases.extend(collections());
     cases.extend(many_batches());
     cases.extend(many_payments());
     cases.extend(behind_many_payments());
@@ -97,6 +98,40 @@ fn registrations() -> Vec<Case> {
             "swapped check digits",
             "NO 26 6 19",
             plain_files::write_wrong_check_digit,
+        ),
+    ]
+}
+
+/// Payments of one record.
+fn collections() -> Vec<Case> {
+    vec![
+        case(
+            "water, power and taxes",
+            "OK 2 11 3 429775 1 54310",
+            plain_files::write_collection,
+        ),
+        case(
+            "a return of them",
+            "OK 1 8 3 169085 0 0",
+            plain_files::write_collection_return,
+        ),
+        case(
+            "a code with swapped digits",
+            "NO 55 4 21",
+            plain_files::write_wrong_code,
+        ),
+        case(
+            "10,000 collections",
+            "OK 1 10004 10000 100000000 0 0",
+            |out| many_collections(out, Direction::Remittance, 10_000)?.close(),
+        ),
+        case("10,001 collections", "NO 20 10003 14", |out| {
+            many_collections(out, Direction::Remittance, 10_001)?.close()
+        }),
+        case(
+            "Z behind 10,000 collections",
+            "OK 1 10005 10000 100000000 0 0",
+            |out| many_collections(out, Direction::Return, 10_000)?.close(),
         ),
     ]
 }

@@ -63,7 +63,10 @@ impl FileCases<'_> {
             3 => file.lines[self.random.below(file.lines.len())]
                 .bytes
                 .clone(),
-            4 => any_file(self.random).lines.swap_remove(at % 6).bytes,
+            4 => {
+                let mut others = any_file(self.random).lines;
+                others.swap_remove(at % others.len()).bytes
+            }
             5 => (0..LINE_BYTES).map(|_| self.random.byte()).collect(),
             _ => self.damaged_line(file, at),
         }

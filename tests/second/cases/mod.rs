@@ -4,6 +4,9 @@
 
 pub mod absence_cases;
 pub mod absence_file_cases;
+pub mod code_cases;
+pub mod collection_file_cases;
+pub mod collection_record_cases;
 pub mod digit_cases;
 pub mod due_cases;
 pub mod file_cases;
@@ -19,6 +22,7 @@ pub mod registration_cases;
 pub mod registration_file_cases;
 pub mod script_absence_cases;
 pub mod script_cases;
+pub mod script_collection_cases;
 pub mod script_field_cases;
 pub mod script_kind_cases;
 pub mod script_malformed_cases;

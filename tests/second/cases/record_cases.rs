@@ -20,12 +20,12 @@ const LENGTHS: [usize; 9] = [0, 1, 7, 239, 240, 241, 242, 243, 480];
 const LARGE_LENGTHS: [usize; 3] = [1_000, 65_536, BYTES_LIMIT];
 
 const PAIR_PLACES: usize = 4;
-const SERVICES_WITH_A_FORM: [usize; 3] = [1, 3, 20];
-const SAMPLE_FORMS: [usize; 10] = [0, 1, 3, 10, 20, 30, 31, 41, 45, 99];
+const SERVICES_WITH_A_FORM: [usize; 4] = [1, 3, 20, 29];
+const SAMPLE_FORMS: [usize; 11] = [0, 1, 3, 10, 11, 20, 30, 31, 41, 45, 99];
 const LARGEST_CODE: usize = 99;
-const PAIRS_WITH_NON_DIGITS: [&[u8; PAIR_PLACES]; 12] = [
+const PAIRS_WITH_NON_DIGITS: [&[u8; PAIR_PLACES]; 16] = [
     b"    ", b"20 1", b" 001", b"2 01", b"201 ", b"O330", b"03 0", b"03A0", b"03:0", b"/330",
-    b"2O01", b"0 30",
+    b"2O01", b"0 30", b"291 ", b"29 1", b" 911", b"2A11",
 ];
 
 const CURRENCY_PLACE: usize = 21;
@@ -141,7 +141,7 @@ impl RecordCases<'_> {
             record[TYPE_PLACE - 1] = self.random.pick(b"0123459 x");
         }
         if has(WRONG_SEGMENT) {
-            record[SEGMENT_PLACE - 1] = self.random.pick(b"ABJZaC 0");
+            record[SEGMENT_PLACE - 1] = self.random.pick(b"ABJOZaoC 0");
         }
         if has(WRONG_BYTE) {
             let at = self.random.below(RECORD_BYTES);

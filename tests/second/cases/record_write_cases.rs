@@ -23,7 +23,7 @@ const REPEATS_PER_FLAWS: usize = 2;
 const DIGITS_TO_TRY: u64 = 12;
 /// The last two have more digits than a service or a form.
 const LARGEST_CODE: u64 = 101;
-const SAMPLE_FORMS: [u64; 6] = [1, 10, 30, 31, 99, 130];
+const SAMPLE_FORMS: [u64; 8] = [1, 10, 11, 30, 31, 99, 111, 130];
 const TEXT_BYTES_TO_TRY: &[u8] = b" x/\x1F\x7F";
 const NO_NUMBERS: [&[u8; DIGITS_OF_A_VALUE]; 4] = [
     b"                   1",

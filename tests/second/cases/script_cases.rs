@@ -109,16 +109,12 @@ impl ScriptCases<'_> {
         self.ask_calls(&calls);
     }
 
-    /// Credit and boleto batches in turn.
+    /// Batches of all kinds in turn.
     fn mixed_file(&mut self, direction: Direction) -> MadeFile {
-        let first = self.random.pick(&BATCH_KINDS);
+        let mut kinds = BATCH_KINDS;
+        self.random.shuffle(&mut kinds);
         let batches = self.random.between(2, MOST_BATCHES);
-        let shapes = (0..batches).map(|before| {
-            let kind = if before % 2 == 0 {
-                first
-            } else {
-                first.other()
-            };
+        let shapes = kinds.into_iter().cycle().take(batches).map(|kind| {
             let payments = self.random.between(1, 2);
             BatchShape { kind, payments }
         });

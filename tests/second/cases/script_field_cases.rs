@@ -13,9 +13,9 @@ use crate::paper::record_kinds::{
 use crate::paper::records::first_too_wide;
 
 const KNOWN_NUMBERS: usize = 2;
-const SERVICE_PAIRS: usize = 12;
-const SERVICES: [u64; 9] = [0, 1, 2, 3, 20, 21, 99, 103, 120];
-const FORMS: [u64; 12] = [0, 1, 3, 10, 11, 30, 31, 41, 45, 99, 101, 130];
+const SERVICE_PAIRS: usize = 20;
+const SERVICES: [u64; 13] = [0, 1, 2, 3, 20, 21, 22, 29, 29, 99, 103, 120, 129];
+const FORMS: [u64; 14] = [0, 1, 3, 10, 11, 11, 30, 31, 41, 45, 99, 101, 111, 130];
 const REPEATS_PER_BOLETO_FLAWS: usize = 2;
 const COMBINATIONS_OF_BOLETO_FLAWS: usize = 16;
 /// Other than the number that the field should have.

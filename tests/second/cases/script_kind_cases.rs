@@ -11,6 +11,11 @@ use crate::paper::writer_calls::GivenRecord;
 pub const POSITIONS: usize = 3;
 const WITH_Z_ONCE_IN: usize = 3;
 
+/// A record that is no O does not travel alone.
+pub fn is_no_payment(records: &[GivenRecord]) -> bool {
+    records.len() == 1 && records[0].kind != RecordKind::O
+}
+
 impl ScriptCases<'_> {
     pub fn ask_kinds(&mut self) {
         for direction in DIRECTIONS {
@@ -28,7 +33,7 @@ impl ScriptCases<'_> {
     fn kind_at(&mut self, direction: Direction, batch: BatchKind, at: usize, kind: RecordKind) {
         let good = self.payment_frame(direction, batch);
         let mut spoiled = good.clone();
-        self.put_record(&mut spoiled, direction, at, kind);
+        self.put_record(&mut spoiled, batch, at, kind);
         self.ask_spoiled(&good, &spoiled);
     }
 
@@ -43,7 +48,7 @@ impl ScriptCases<'_> {
     ) {
         let good = self.payment_frame(direction, batch);
         let mut spoiled = good.clone();
-        self.put_record(&mut spoiled, direction, at, kind);
+        self.put_record(&mut spoiled, batch, at, kind);
         let records = spoiled.call().records.len();
         let other = self.random.below(records);
         spoiled.spot.record = self.random.pick(&[at, at, other]);
@@ -54,24 +59,28 @@ impl ScriptCases<'_> {
     /// A frame around the first record of a payment.
     pub fn payment_frame(&mut self, direction: Direction, batch: BatchKind) -> Frame {
         let file = small_file(self.random, direction, batch);
-        let (first, _) = batch.payment_kinds();
-        let line = self.random.pick(&file.positions(first));
+        let line = self.random.pick(&file.positions(batch.first_kind()));
         Frame::of(self.random, file, line)
     }
 
-    /// Puts a record of this kind, good for itself, into the frame's payment.
-    fn put_record(&mut self, frame: &mut Frame, direction: Direction, at: usize, kind: RecordKind) {
+    /// Puts a record of this kind, good for itself, into the frame's payment. An O
+    /// has a Z behind it where that is what comes before the position.
+    fn put_record(&mut self, frame: &mut Frame, batch: BatchKind, at: usize, kind: RecordKind) {
+        let direction = frame.file.direction;
         let record = self.detail_or_other(direction, kind);
         let with_z = self.random.below(WITH_Z_ONCE_IN) == 0;
         let z = self.detail_or_other(direction, RecordKind::Z);
         let records = &mut frame.call_mut().records;
-        records.truncate(2);
+        records.truncate(batch.payment_kinds().len());
+        while records.len() < at {
+            records.push(z.clone());
+        }
         if at == records.len() {
             records.push(record);
             return;
         }
         records[at] = record;
-        if with_z {
+        if with_z || is_no_payment(records) {
             records.push(z);
         }
     }

@@ -8,7 +8,7 @@ use crate::making::good_calls::{calls_of, steps};
 use crate::making::good_files::{any_file, file_of, put_amount, BatchShape, LARGEST_AMOUNT};
 use crate::paper::file_state::{BatchKind, BATCH_KINDS};
 use crate::paper::lines::{LINE_BYTES, MOST_BATCHES};
-use crate::paper::record_kinds::{Direction, RecordKind, DIRECTIONS};
+use crate::paper::record_kinds::{Direction, DIRECTIONS};
 use crate::paper::totals::Movement::{self, Live, Withdrawn};
 use crate::paper::writer_calls::{CallKind, WriterCall, CALL_KINDS};
 
@@ -129,10 +129,8 @@ impl ScriptCases<'_> {
     /// Detail numbers, counts and sums of many digits.
     fn many_payments(&mut self, direction: Direction, kind: BatchKind, payments: usize) {
         let mut file = file_of(self.random, direction, &[BatchShape { kind, payments }]);
-        for first in [RecordKind::A, RecordKind::J] {
-            for at in file.positions(first) {
-                put_amount(&mut file.lines[at], LARGEST_AMOUNT);
-            }
+        for at in file.payments() {
+            put_amount(&mut file.lines[at], LARGEST_AMOUNT);
         }
         let calls = calls_of(self.random, &file);
         self.ask_calls(&calls);

@@ -2,8 +2,10 @@
 
 use crate::asking::writer_script::Step;
 use crate::cases::script_cases::ScriptCases;
+use crate::cases::script_kind_cases::is_no_payment;
 use crate::cases::script_room_cases::MORE_THAN_ALL;
 use crate::damage::call_flaws;
+use crate::damage::collection_flaws;
 use crate::damage::registration_flaws;
 use crate::making::good_calls::{steps, Frame};
 use crate::making::random::Random;
@@ -24,6 +26,8 @@ const WRONG_NUMBER_ONCE_IN: usize = 3;
 enum Blemish {
     /// Only a J has it.
     Boleto,
+    /// Only an O has it.
+    Code,
     /// A wrong CPF or CNPJ.
     Registration,
     /// Only a payment has it.
@@ -34,9 +38,12 @@ enum Blemish {
 
 /// In an order in which they can be put so that none undoes another, as far as
 /// a record can have both.
-const PAIRS: [(Blemish, Blemish); 10] = [
+const PAIRS: [(Blemish, Blemish); 13] = [
     (Blemish::Boleto, Blemish::Field),
     (Blemish::Boleto, Blemish::Byte),
+    (Blemish::Code, Blemish::Field),
+    (Blemish::Code, Blemish::Byte),
+    (Blemish::Kind, Blemish::Code),
     (Blemish::Registration, Blemish::Registration),
     (Blemish::Registration, Blemish::Field),
     (Blemish::Registration, Blemish::Byte),
@@ -46,8 +53,9 @@ const PAIRS: [(Blemish, Blemish); 10] = [
     (Blemish::Field, Blemish::Field),
     (Blemish::Field, Blemish::Byte),
 ];
-const BLEMISHES: [Blemish; 5] = [
+const BLEMISHES: [Blemish; 6] = [
     Blemish::Boleto,
+    Blemish::Code,
     Blemish::Registration,
     Blemish::Kind,
     Blemish::Field,
@@ -117,11 +125,12 @@ impl ScriptCases<'_> {
     ) {
         let batch = match first {
             Blemish::Boleto => BatchKind::Boleto,
+            Blemish::Code => BatchKind::Collection,
             _ => self.random.pick(&BATCH_KINDS),
         };
         let good = self.payment_frame(direction, batch);
         let mut spoiled = good.clone();
-        if spoiled.call().records.len() <= right {
+        while spoiled.call().records.len() <= right {
             let z = self.detail_or_other(direction, RecordKind::Z);
             spoiled.call_mut().records.push(z);
         }
@@ -143,8 +152,16 @@ impl ScriptCases<'_> {
             Blemish::Kind if frame.call().kind == CallKind::Payment => {
                 let kind = self.random.pick(&RECORD_KINDS);
                 *frame.record_mut() = self.detail_or_other(subject.direction, kind);
+                if is_no_payment(&frame.call().records) {
+                    let z = self.detail_or_other(subject.direction, RecordKind::Z);
+                    frame.call_mut().records.push(z);
+                }
             }
-            Blemish::Boleto | Blemish::Kind => {}
+            Blemish::Code if subject.kind == RecordKind::O => {
+                let values = &mut frame.record_mut().values;
+                collection_flaws::spoil_code(self.random, &mut values.text);
+            }
+            Blemish::Boleto | Blemish::Code | Blemish::Kind => {}
             Blemish::Registration => {
                 let values = &mut frame.record_mut().values;
                 registration_flaws::spoil_number(self.random, subject.kind, values);

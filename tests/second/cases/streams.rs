@@ -8,10 +8,12 @@ use std::iter;
 use crate::asking::probe::{Request, HEADER_BYTES, OP_AT};
 use crate::cases::file_cases::{self, FileCases};
 use crate::cases::script_cases::ScriptCases;
-use crate::cases::{absence_cases, digit_cases, due_cases, large_file_cases, line_call_cases};
+use crate::cases::{absence_cases, code_cases, collection_record_cases, digit_cases, due_cases};
+use crate::cases::{large_file_cases, line_call_cases};
 use crate::cases::{record_cases, record_write_cases, registration_cases, withdrawn_cases};
 use crate::damage::malformed_requests::{changed, malformed_requests, with_bait};
 use crate::making::good_barcodes;
+use crate::making::good_codes;
 use crate::making::good_requests::good_requests;
 use crate::making::random::Random;
 
@@ -26,6 +28,10 @@ const ABSENCE_SEED: u64 = 15;
 const ABSENCE_FILE_SEED: u64 = 16;
 const REGISTRATION_SEED: u64 = 18;
 const REGISTRATION_FILE_SEED: u64 = 19;
+const CODE_SEED: u64 = 22;
+const CODE_STRING_SEED: u64 = 23;
+const COLLECTION_SEED: u64 = 24;
+const COLLECTION_FILE_SEED: u64 = 25;
 const PAIRS_OF_FLAWS_SEED: u64 = 10;
 const ROUNDS_OF_PAIRS: usize = 2;
 /// The first of the streams about files has this seed, the others the next ones.
@@ -62,6 +68,10 @@ pub fn accepted_barcodes() -> Vec<Vec<u8>> {
     good_barcodes::accepted_barcodes(&mut Random::with_seed(BARCODE_SEED))
 }
 
+pub fn accepted_codes() -> Vec<Vec<u8>> {
+    good_codes::accepted_codes(&mut Random::with_seed(CODE_SEED))
+}
+
 /// All streams, each made only when it is wanted: together they are large, and
 /// a seeded fault is mostly caught in the first about its topic.
 pub fn streams() -> impl Iterator<Item = Stream> {
@@ -87,6 +97,7 @@ pub fn writer_streams() -> impl Iterator<Item = Stream> {
             cases.ask_withdrawn();
             cases.ask_absences();
             cases.ask_registrations();
+            cases.ask_collections();
         }
         cases.ask_all();
         let mut requests = cases.requests;
@@ -115,6 +126,7 @@ pub fn part_streams() -> impl Iterator<Item = Stream> {
             cases.ask_cuts_made_once();
             cases.ask_absences_in_parts();
             cases.ask_registrations_in_parts();
+            cases.ask_collections_in_parts();
         }
         cases.ask_files_in_parts();
         let mut requests = cases.requests;
@@ -148,7 +160,7 @@ fn stream_of_pairs_of_flaws() -> Stream {
 
 /// Large files, every due date around a turn, every mix of live and withdrawn
 /// payments, every way in which numbers are not given, CPF and CNPJ of every
-/// sort, and files that chance would hardly make.
+/// sort, O records in every shape, and files that chance would hardly make.
 fn stream_of_files_made_once() -> Stream {
     let mut random = Random::with_seed(MADE_ONCE_SEED);
     let mut requests = large_file_cases::requests(&mut random);
@@ -166,6 +178,10 @@ fn stream_of_files_made_once() -> Stream {
     let mut cases = FileCases::new(&mut registrations);
     cases.ask_registrations();
     requests.extend(cases.requests);
+    let mut collections = Random::with_seed(COLLECTION_FILE_SEED);
+    let mut cases = FileCases::new(&mut collections);
+    cases.ask_collections();
+    requests.extend(cases.requests);
     Stream::shuffled(requests, &mut random)
 }
 
@@ -180,6 +196,11 @@ fn stream_of_strings(barcodes: &[Vec<u8>]) -> Stream {
     )));
     requests.extend(registration_cases::requests(&mut Random::with_seed(
         REGISTRATION_SEED,
+    )));
+    let mut random = Random::with_seed(CODE_STRING_SEED);
+    requests.extend(code_cases::requests(&mut random, &accepted_codes()));
+    requests.extend(collection_record_cases::requests(&mut Random::with_seed(
+        COLLECTION_SEED,
     )));
     requests.extend(malformed_requests());
     Stream::shuffled(requests, &mut Random::with_seed(ORDER_SEED))

@@ -20,7 +20,6 @@ const MOST_PAYMENTS_OF_TWO: usize = 2;
 const FILES_OF_MANY_BATCHES: usize = 30;
 const MOST_BATCHES: usize = 5;
 const LARGEST_ORDINARY_AMOUNT: usize = 99_999_999;
-const RECORDS_OF_A_PAYMENT: u64 = 2;
 
 /// The payments of a batch, live and withdrawn.
 pub struct MixedBatch {
@@ -47,7 +46,7 @@ pub fn requests(random: &mut Random) -> Vec<Request> {
     cases.requests
 }
 
-/// Every mix of few payments, of either kind.
+/// Every mix of few payments, of credits or of boletos.
 pub fn mixed_batches() -> Vec<MixedBatch> {
     mixed_batches_up_to(MOST_PAYMENTS)
 }
@@ -137,9 +136,10 @@ impl FileCases<'_> {
         let mut payments = payments_of(lines);
         payments.retain(|payment| payment.batch == batches.len());
         let Totals { live, withdrawn } = totals_of(&payments);
+        let first = payments[0].kind;
         for share in [live, withdrawn] {
             self.ask_with_trailer(&file, |line| put_sum(line, share));
-            self.ask_with_trailer(&file, |line| put_count(line, share));
+            self.ask_with_trailer(&file, |line| put_count(line, first, share));
         }
         self.ask_file(file.bytes());
     }
@@ -166,11 +166,14 @@ fn put_sum(line: &mut [u8], share: Share) {
     BATCH_SUM.put_number(line, share.cents);
 }
 
-fn put_count(line: &mut [u8], share: Share) {
-    BATCH_RECORDS.put_number(line, u128::from(records_of(share)));
+fn put_count(line: &mut [u8], first: RecordKind, share: Share) {
+    BATCH_RECORDS.put_number(line, u128::from(records_of(first, share)));
 }
 
-/// What a trailer without regard to Z counts for these payments.
-pub fn records_of(share: Share) -> u64 {
-    RECORDS_OF_A_PAYMENT * share.payments + BOTH_ENDS
+/// What a trailer without regard to Z counts for these payments, which begin with
+/// records of this kind.
+pub fn records_of(first: RecordKind, share: Share) -> u64 {
+    let batch = BatchKind::with_record(first);
+    let records = batch.map_or(0, |batch| batch.payment_kinds().len());
+    records as u64 * share.payments + BOTH_ENDS
 }

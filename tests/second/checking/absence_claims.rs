@@ -8,7 +8,7 @@ use crate::making::absences::{self, all_pairs, put_pair};
 use crate::making::good_records::good_record;
 use crate::making::random::Random;
 use crate::paper::answers::{Answer, Verdict};
-use crate::paper::guarded_places::guarded_places;
+use crate::paper::guarded_places::{guarded_places, LineOfFile};
 use crate::paper::layout_table as table;
 use crate::paper::lines::{LINE_END, RECORD_BYTES};
 use crate::paper::places::NOT_THERE_YET;
@@ -91,7 +91,12 @@ fn written(subject: Subject, values: &Values) -> Answer {
 
 fn is_unguarded(direction: Direction, record: &[u8]) -> Result<(), String> {
     let line = [record, LINE_END].concat();
-    let guarded = guarded_places(KIND, &line, direction);
+    let guarded = guarded_places(LineOfFile {
+        kind: KIND,
+        bytes: &line,
+        direction,
+        before: None,
+    });
     let mut places = NOT_THERE_YET.into_iter().flat_map(|part| part.places());
     let unguarded = places.all(|place| !guarded.contains(&place));
     demand(unguarded, "places without a claim")

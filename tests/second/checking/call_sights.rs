@@ -68,7 +68,7 @@ impl SeenCall<'_> {
                     place,
                 }]
             }
-            Row::Registration(at, _) | Row::Boleto(at, _) => {
+            Row::Registration(at, _) | Row::Boleto(at, _) | Row::Collection(at, _) => {
                 let kind = kind_of(at);
                 vec![Sight::Fault {
                     number,
@@ -189,6 +189,7 @@ fn class(row: Row) -> Option<Class> {
         Row::Field(..) => Some(Class::Field),
         Row::Registration(..) => Some(Class::Registration),
         Row::Boleto(..) => Some(Class::Boleto),
+        Row::Collection(..) => Some(Class::Code),
         Row::Room => Some(Class::Room),
         Row::RecordLimit | Row::Total => None,
     }

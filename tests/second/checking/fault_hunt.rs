@@ -64,10 +64,12 @@ fn catch(command: &[String], topic: Topic, faults: Vec<(String, Fault)>) -> Resu
             ));
         }
     }
-    match hunt.faults.first() {
-        Some((name, _)) => Err(format!("fault {name} was not caught")),
-        None => Ok(()),
+    if hunt.faults.is_empty() {
+        return Ok(());
     }
+    let names = hunt.faults.iter().map(|(name, _)| name.as_str());
+    let names: Vec<&str> = names.collect();
+    Err(format!("faults that were not caught: {}", names.join(", ")))
 }
 
 /// The faults that no request has shown so far.

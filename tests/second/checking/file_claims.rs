@@ -62,8 +62,8 @@ fn accepts(file: &MadeFile) -> bool {
 
 fn changes_at_guarded_places(random: &mut Random, file: &MadeFile) -> Result<usize, String> {
     let mut refused = 0;
-    for (at, line) in file.lines.iter().enumerate() {
-        for place in guarded_places(line.kind, &line.bytes, file.direction) {
+    for at in 0..file.lines.len() {
+        for place in guarded_places(file.line_at(at)) {
             let mut changed = file.clone();
             let byte = &mut changed.lines[at].bytes[place - 1];
             *byte = changed_byte(random, *byte);

@@ -163,6 +163,7 @@ pub fn kind_of(line: &[u8], is_begun: impl Fn() -> bool) -> Option<RecordKind> {
         (b"9", _) => Some(RecordKind::FileTrailer),
         (b"3", b"A") => Some(RecordKind::A),
         (b"3", b"B") => Some(RecordKind::B),
+        (b"3", b"O") => Some(RecordKind::O),
         (b"3", b"Z") => Some(RecordKind::Z),
         (b"3", b"J") if is_begun() => Some(RecordKind::J52),
         (b"3", b"J") => Some(RecordKind::J),

@@ -13,6 +13,9 @@ use crate::paper::places::{BATCH_RECORDS, BATCH_SUM, DIRECTION, TYPE};
 use crate::paper::record_kinds::{Direction, RecordKind, DIRECTIONS};
 use crate::paper::totals::{Movement, Totals, MOVEMENTS};
 
+/// The codes of records that begin payments.
+const FIRSTS: [char; 3] = ['A', 'J', 'O'];
+
 /// Where a payment stands in its batch.
 #[derive(Clone, Copy, PartialEq, Eq, PartialOrd, Ord, Debug)]
 enum Position {
@@ -277,17 +280,16 @@ fn sights_of_refusal(number: u32, before: &[&[u8]], refused: &[u8]) -> Vec<Sight
     for movement in MOVEMENTS {
         let mut totals = totals_of(open);
         let share = *totals.share_mut(movement);
-        let own = if number == WRONG_SUM {
-            u128::from(BATCH_SUM.number(refused)) == share.cents
-        } else {
-            BATCH_RECORDS.number(refused) == records_of(share)
-        };
-        let first = open.first().map(|payment| code(payment.kind));
-        sights.extend(first.filter(|_| own).map(|first| Sight::TrailerOf {
+        let first = open.first().map(|payment| payment.kind);
+        let own = first.filter(|first| match number {
+            WRONG_SUM => u128::from(BATCH_SUM.number(refused)) == share.cents,
+            _ => BATCH_RECORDS.number(refused) == records_of(*first, share),
+        });
+        sights.extend(own.map(|first| Sight::TrailerOf {
             number,
             movement,
             direction: direction_of(before),
-            first,
+            first: code(first),
         }));
     }
     sights
@@ -308,7 +310,7 @@ fn demanded() -> Vec<Sight> {
     let mut sights = Vec::new();
     for way in WAYS {
         for direction in DIRECTIONS {
-            for first in ['A', 'J'] {
+            for first in FIRSTS {
                 sights.extend(demanded_in_batches(way, direction, first));
             }
             let direction = char::from(direction.code());
@@ -323,7 +325,7 @@ fn demanded() -> Vec<Sight> {
         }
         sights.extend(COUNTED.map(|counted| Sight::Numbers { way, counted }));
     }
-    for first in ['A', 'J'] {
+    for first in FIRSTS {
         for movement in MOVEMENTS {
             sights.extend(INSTRUCTIONS.map(|instruction| Sight::Instruction {
                 first,

@@ -13,13 +13,14 @@ use crate::paper::Paper;
 const SEED: u64 = 5;
 const RECORDS_OF_A_SUBJECT: usize = 20;
 /// How many fields the table has for each kind of record.
-const FIELD_COUNTS: [(RecordKind, usize); 9] = [
+const FIELD_COUNTS: [(RecordKind, usize); 10] = [
     (RecordKind::FileHeader, 22),
     (RecordKind::BatchHeader, 24),
     (RecordKind::A, 25),
     (RecordKind::B, 9),
     (RecordKind::J, 21),
     (RecordKind::J52, 18),
+    (RecordKind::O, 16),
     (RecordKind::Z, 6),
     (RecordKind::BatchTrailer, 10),
     (RecordKind::FileTrailer, 8),

@@ -70,8 +70,8 @@ fn one_pair_is_right(registration: Registration, base: &[u8]) -> Result<(), Stri
 
 /// Neither a number nor its type.
 fn no_number_is_guarded(file: &MadeFile) -> Result<(), String> {
-    for line in &file.lines {
-        let guarded = guarded_places(line.kind, &line.bytes, file.direction);
+    for (at, line) in file.lines.iter().enumerate() {
+        let guarded = guarded_places(file.line_at(at));
         let covers = |field: Field, place: usize| (field.first - 1..=field.last).contains(&place);
         let mut fields = table::registrations(line.kind).into_iter();
         let claimed = fields.any(|field| guarded.iter().any(|place| covers(field, *place)));

@@ -3,9 +3,11 @@
 
 use crate::making::good_files::{MadeFile, MadeLine};
 use crate::making::guarded_samples::Sample;
-use crate::paper::guarded_places::WEAK_CHECK;
+use crate::paper::collection_codes::Modulus;
+use crate::paper::guarded_places::{WEAK_CHECK, WEAK_CODE_CHECK};
 use crate::paper::layout_table::{self as table, Entry};
 use crate::paper::places::{part, Part, BARCODE_CENTS, BARCODE_CHECK, DISCOUNT, FACTOR, FINE};
+use crate::paper::places::{AMOUNT_OF_O, CODE_CHECK, CODE_IDENTIFIER};
 use crate::paper::record_kinds::{Direction, RecordKind};
 use crate::paper::record_rules::{all_blank, all_digits};
 use crate::paper::registration::{type_before, Registration};
@@ -13,17 +15,22 @@ use crate::paper::totals::Movement;
 
 const FORM: Part = part(12, 13);
 
-const DEMANDED: [&str; 41] = [
+const DEMANDED: [&str; 54] = [
     "form 01",
     "form 10",
     "form 41",
     "form 45",
     "form 30",
     "form 31",
+    "form 11",
     "credit with Z in a return",
     "credit without Z in a return",
     "boleto with Z in a return",
     "boleto without Z in a return",
+    "collection without Z in a remittance",
+    "collection with Z in a return",
+    "collection without Z in a return",
+    "collection without cents in a return",
     "live credit in a remittance",
     "live credit in a return",
     "live boleto in a remittance",
@@ -32,6 +39,10 @@ const DEMANDED: [&str; 41] = [
     "withdrawn credit in a return",
     "withdrawn boleto in a remittance",
     "withdrawn boleto in a return",
+    "live collection in a remittance",
+    "live collection in a return",
+    "withdrawn collection in a remittance",
+    "withdrawn collection in a return",
     "general check 1",
     "another general check",
     "factor 0",
@@ -39,6 +50,10 @@ const DEMANDED: [&str; 41] = [
     "cents 0",
     "cents",
     "discount and fine",
+    "code check 0 of modulus 11",
+    "another code check of modulus 11",
+    "code check 0 of modulus 10",
+    "another code check of modulus 10",
     "blank T",
     "filled T",
     "blank O in a return",
@@ -80,13 +95,18 @@ fn sights_of_file(file: &MadeFile) -> Vec<String> {
             }
             RecordKind::B => sights.push(format!("credit {z} in a {direction}")),
             RecordKind::J52 => sights.push(format!("boleto {z} in a {direction}")),
-            RecordKind::A | RecordKind::J => {
-                let withdrawn = Movement::of(bytes) == Movement::Withdrawn;
-                let movement = either(withdrawn, "withdrawn", "live");
-                let payment = either(line.kind == RecordKind::A, "credit", "boleto");
-                sights.push(format!("{movement} {payment} in a {direction}"));
-            }
+            RecordKind::O => sights.push(format!("collection {z} in a {direction}")),
             _ => {}
+        }
+        if let Some(payment) = payment_name(line.kind) {
+            let withdrawn = Movement::of(bytes) == Movement::Withdrawn;
+            let movement = either(withdrawn, "withdrawn", "live");
+            sights.push(format!("{movement} {payment} in a {direction}"));
+        }
+        if line.kind == RecordKind::O {
+            let cents = either(AMOUNT_OF_O.number(bytes) == 0, "without", "with");
+            sights.push(format!("collection {cents} cents in a {direction}"));
+            sights.push(code_sight(bytes));
         }
         if line.kind == RecordKind::J {
             sights.extend(sights_of_boleto(bytes).map(str::to_string));
@@ -94,6 +114,24 @@ fn sights_of_file(file: &MadeFile) -> Vec<String> {
         sights.extend(sights_of_fields(line, direction));
     }
     sights
+}
+
+/// Only the first record of a payment says what it is.
+fn payment_name(kind: RecordKind) -> Option<&'static str> {
+    match kind {
+        RecordKind::A => Some("credit"),
+        RecordKind::J => Some("boleto"),
+        RecordKind::O => Some("collection"),
+        _ => None,
+    }
+}
+
+fn code_sight(line: &[u8]) -> String {
+    let weak = CODE_CHECK.of(line) == [WEAK_CODE_CHECK];
+    let check = either(weak, "code check 0", "another code check");
+    let by_ten = Modulus::of_identifier(CODE_IDENTIFIER.of(line)[0]) == Some(Modulus::Ten);
+    let modulus = either(by_ten, "10", "11");
+    format!("{check} of modulus {modulus}")
 }
 
 fn sights_of_boleto(line: &[u8]) -> [&'static str; 4] {

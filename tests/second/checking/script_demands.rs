@@ -11,13 +11,17 @@ use crate::making::good_calls::{given_numbers, given_texts, takes_number};
 use crate::paper::file_state::{BatchKind, BATCH_KINDS};
 use crate::paper::layout_table::{self as table, Entry};
 use crate::paper::numbers::WRONG_REGISTRATION;
+use crate::paper::numbers::{WRONG_CODE_CHECK, WRONG_IDENTIFIER, WRONG_PRODUCT};
 use crate::paper::places::{AMOUNT_OF_J, BARCODE_CENTS, BARCODE_CHECK, FACTOR};
+use crate::paper::places::{CODE_CHECK, CODE_IDENTIFIER, CODE_PRODUCT};
 use crate::paper::record_kinds::{Direction, RecordKind, DIRECTIONS, RECORD_KINDS};
 use crate::paper::totals::MOVEMENTS;
 use crate::paper::writer_calls::{CallKind, CALL_KINDS};
 
 const MOST_LINES: usize = 7;
-const NUMBERS_BEFORE_GOING_ON: [u32; 14] = [4, 8, 11, 12, 13, 14, 15, 16, 17, 18, 19, 20, 26, 50];
+const NUMBERS_BEFORE_GOING_ON: [u32; 17] = [
+    4, 8, 11, 12, 13, 14, 15, 16, 17, 18, 19, 20, 26, 50, 52, 53, 55,
+];
 
 /// All that has to be seen in a run.
 pub fn demanded() -> Vec<Sight> {
@@ -31,6 +35,7 @@ pub fn demanded() -> Vec<Sight> {
         }));
     }
     sights.extend(boleto_faults());
+    sights.extend(code_faults());
     sights.extend(wrong_registrations());
     sights.extend(calls_out_of_turn());
     sights.extend(wrong_kinds());
@@ -72,7 +77,7 @@ fn faults_of(kind: RecordKind) -> Vec<Sight> {
         sights.push(Sight::WrongByte { kind, place });
         let number = match field.entry {
             Entry::Text => Some(13),
-            Entry::Identifier | Entry::Barcode => Some(8),
+            Entry::Identifier | Entry::Barcode | Entry::Code => Some(8),
             Entry::BlankInRemittance => Some(12),
             _ => None,
         };
@@ -99,6 +104,22 @@ fn boleto_faults() -> Vec<Sight> {
         number,
         kind,
         place,
+    });
+    sights.to_vec()
+}
+
+/// The code of an O.
+fn code_faults() -> Vec<Sight> {
+    let faults = [
+        (WRONG_PRODUCT, CODE_PRODUCT),
+        (WRONG_IDENTIFIER, CODE_IDENTIFIER),
+        (WRONG_CODE_CHECK, CODE_CHECK),
+    ];
+    let kind = code(RecordKind::O);
+    let sights = faults.map(|(number, part)| Sight::Fault {
+        number,
+        kind,
+        place: part.first,
     });
     sights.to_vec()
 }
@@ -161,7 +182,7 @@ fn wrong_kinds() -> Vec<Sight> {
     let mut sights = Vec::new();
     for direction in DIRECTIONS {
         for batch in BATCH_KINDS {
-            for position in 0..POSITIONS {
+            for position in 0..positions(direction, batch) {
                 let others = RECORD_KINDS.into_iter();
                 let others = others.filter(|kind| !is_right(direction, batch, position, *kind));
                 sights.extend(others.map(|kind| wrong_kind(direction, batch, position, kind)));
@@ -171,17 +192,24 @@ fn wrong_kinds() -> Vec<Sight> {
     sights
 }
 
+/// Behind a Z nothing is right, and a remittance has none to stand behind.
+fn positions(direction: Direction, batch: BatchKind) -> usize {
+    match (direction, batch) {
+        (Direction::Remittance, BatchKind::Collection) => POSITIONS - 1,
+        _ => POSITIONS,
+    }
+}
+
 fn is_right(direction: Direction, batch: BatchKind, position: usize, kind: RecordKind) -> bool {
-    let (first, second) = batch.payment_kinds();
-    match position {
-        0 => kind == first,
-        1 => kind == second,
-        _ => kind == RecordKind::Z && direction == Direction::Return,
+    match batch.payment_kinds().get(position) {
+        Some(own) => kind == *own,
+        None if position > batch.payment_kinds().len() => false,
+        None => kind == RecordKind::Z && direction == Direction::Return,
     }
 }
 
 /// Two faults, of which one at least is about the call as a whole.
-const OF_A_CALL: [(Class, Class); 14] = [
+const OF_A_CALL: [(Class, Class); 15] = [
     (Class::Turn, Class::Limit),
     (Class::Turn, Class::Byte),
     (Class::Turn, Class::Field),
@@ -196,9 +224,10 @@ const OF_A_CALL: [(Class, Class); 14] = [
     (Class::Field, Class::Room),
     (Class::Registration, Class::Room),
     (Class::Boleto, Class::Room),
+    (Class::Code, Class::Room),
 ];
 /// Two faults of one record.
-const OF_A_RECORD: [(Class, Class); 11] = [
+const OF_A_RECORD: [(Class, Class); 15] = [
     (Class::Byte, Class::Kind),
     (Class::Byte, Class::Field),
     (Class::Byte, Class::Registration),
@@ -210,6 +239,10 @@ const OF_A_RECORD: [(Class, Class); 11] = [
     (Class::Registration, Class::Registration),
     (Class::Field, Class::Boleto),
     (Class::Boleto, Class::Boleto),
+    (Class::Byte, Class::Code),
+    (Class::Kind, Class::Code),
+    (Class::Field, Class::Code),
+    (Class::Code, Class::Code),
 ];
 
 fn two_faults() -> Vec<Sight> {
@@ -234,13 +267,27 @@ fn of_two_records() -> Vec<(Class, Class)> {
     // Only a Z may come behind a record with a CPF or a CNPJ.
     let behind_a_number = [Class::Byte, Class::Kind];
     let behind_a_number = behind_a_number.map(|second| (Class::Registration, second));
-    pairs.chain(behind_a_number).collect()
+    // Behind an O too.
+    let behind_a_code = [Class::Byte, Class::Kind].map(|second| (Class::Code, second));
+    let behind = behind_a_number.into_iter().chain(behind_a_code);
+    pairs.chain(behind).collect()
 }
+
+/// Calls by their letters, and how many records they may have.
+const LENGTHS_OF_CALLS: [(char, usize); 7] = [
+    ('O', 1),
+    ('L', 1),
+    ('P', 1),
+    ('P', 2),
+    ('P', 3),
+    ('C', 1),
+    ('E', 1),
+];
 
 fn rooms() -> Vec<Sight> {
     let mut sights = vec![Sight::LentMoreThanAll];
     for bytes in -MOST_BESIDE..=MOST_BESIDE {
-        for (call, records) in [('O', 1), ('L', 1), ('P', 2), ('P', 3), ('C', 1), ('E', 1)] {
+        for (call, records) in LENGTHS_OF_CALLS {
             sights.push(Sight::LentBeside {
                 call,
                 records,
@@ -257,19 +304,27 @@ fn rooms() -> Vec<Sight> {
     sights
 }
 
+/// Which kinds of batches a file has: all but none of them.
+const KINDS_OF_A_FILE: [[bool; 3]; 7] = [
+    [true, false, false],
+    [false, true, false],
+    [false, false, true],
+    [true, true, false],
+    [true, false, true],
+    [false, true, true],
+    [true, true, true],
+];
+
 fn closed_files() -> Vec<Sight> {
     let mut sights = Vec::new();
     for direction in DIRECTIONS {
         let direction = char::from(direction.code());
-        for (credits, boletos) in [(true, false), (false, true), (true, true)] {
-            sights.push(Sight::Closed {
-                direction,
-                credits,
-                boletos,
-            });
+        for kinds in KINDS_OF_A_FILE {
+            sights.push(Sight::Closed { direction, kinds });
         }
     }
-    sights.extend([true, false].map(|boletos| Sight::ClosedWithZ { boletos }));
+    let firsts = BATCH_KINDS.map(|kind| code(kind.first_kind()));
+    sights.extend(firsts.map(|first| Sight::ClosedWithZ { first }));
     sights.extend([1, 2, 3, 70].map(|batches| Sight::ClosedWithBatches { batches }));
     sights
 }
@@ -278,7 +333,7 @@ fn closed_files() -> Vec<Sight> {
 fn movements() -> Vec<Sight> {
     let mut sights = Vec::new();
     for batch in BATCH_KINDS {
-        let first = code(batch.payment_kinds().0);
+        let first = code(batch.first_kind());
         for direction in DIRECTIONS {
             let with_z = direction == Direction::Return;
             let direction = char::from(direction.code());

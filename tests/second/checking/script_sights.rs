@@ -21,6 +21,7 @@ pub enum Class {
     Field,
     Registration,
     Boleto,
+    Code,
     Room,
 }
 
@@ -114,13 +115,14 @@ pub enum Sight {
         second: Class,
         distance: Distance,
     },
+    /// With batches of these kinds.
     Closed {
         direction: char,
-        credits: bool,
-        boletos: bool,
+        kinds: [bool; 3],
     },
+    /// All batches are of one kind.
     ClosedWithZ {
-        boletos: bool,
+        first: char,
     },
     ClosedWithBatches {
         batches: u64,
@@ -178,7 +180,7 @@ pub fn wrong_kind(
 ) -> Sight {
     Sight::WrongKind {
         direction: char::from(direction.code()),
-        first: code(batch.payment_kinds().0),
+        first: code(batch.first_kind()),
         position,
         kind: code(kind),
     }

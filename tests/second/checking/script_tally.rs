@@ -12,10 +12,11 @@ use crate::checking::script_sights::{code, Sight};
 use crate::making::movements::given_movement;
 use crate::paper::answers::{AnswerLine, Verdict};
 use crate::paper::file_reader::check_file;
-use crate::paper::file_state::BatchKind;
+use crate::paper::file_state::{BatchKind, BATCH_KINDS};
 use crate::paper::layout_table as table;
 use crate::paper::lines::LINE_BYTES;
 use crate::paper::places;
+use crate::paper::record_kinds::RecordKind;
 use crate::paper::totals::{Movement, Totals};
 use crate::paper::writer::{Output, Writer};
 use crate::paper::writer_calls::{CallKind, WriterCall};
@@ -257,14 +258,14 @@ impl Run {
                     direction,
                     first,
                     movement,
-                    has_z: call.records.len() > 2,
+                    has_z: has_z(call),
                 });
                 if refused == Some(movement.other()) {
                     sights.push(Sight::PaidInsteadOfTheOther { first, movement });
                 }
             }
             CallKind::CloseBatch => {
-                let first = self.batches.last().map(|kind| code(kind.payment_kinds().0));
+                let first = self.batches.last().map(|kind| code(kind.first_kind()));
                 let mix = Mix::of(self.put_in.of_batch);
                 let closed = first.zip(mix).map(|(first, mix)| Sight::ClosedBatch {
                     direction,
@@ -293,7 +294,7 @@ impl Run {
         let batch = self.writer.state.batch();
         match call.kind {
             CallKind::OpenBatch => self.batches.extend(batch.map(|batch| batch.kind)),
-            CallKind::Payment => self.has_z |= call.records.len() > 2,
+            CallKind::Payment => self.has_z |= has_z(call),
             CallKind::CloseFile => sights.extend(self.closed()),
             CallKind::OpenFile | CallKind::CloseBatch => {}
         }
@@ -301,23 +302,26 @@ impl Run {
     }
 
     fn closed(&self) -> Vec<Sight> {
-        let has = |kind| self.batches.contains(&kind);
-        let (credits, boletos) = (has(BatchKind::Credit), has(BatchKind::Boleto));
+        let kinds = BATCH_KINDS.map(|kind| self.batches.contains(&kind));
         let direction = char::from(self.writer.state.direction.code());
         let batches = self.writer.state.batches;
         let mut sights = vec![
-            Sight::Closed {
-                direction,
-                credits,
-                boletos,
-            },
+            Sight::Closed { direction, kinds },
             Sight::ClosedWithBatches { batches },
         ];
-        if self.has_z && credits != boletos {
-            sights.push(Sight::ClosedWithZ { boletos });
-        }
+        let mut others = self.batches.iter().skip(1);
+        let first = self.batches.first();
+        let alike = first.filter(|first| self.has_z && others.all(|kind| kind == *first));
+        sights.extend(alike.map(|kind| Sight::ClosedWithZ {
+            first: code(kind.first_kind()),
+        }));
         sights
     }
+}
+
+fn has_z(call: &WriterCall) -> bool {
+    let last = call.records.last();
+    last.is_some_and(|record| record.kind == RecordKind::Z)
 }
 
 /// The cents that the caller of a payment gave.

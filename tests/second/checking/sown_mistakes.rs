@@ -8,8 +8,8 @@ use crate::damage::changes::{Demand, Trials};
 use crate::damage::file_trials::trials_with;
 use crate::making::guarded_samples::Sample;
 use crate::making::random::Random;
-use crate::paper::guarded_places::guarded_places;
-use crate::paper::record_kinds::{Direction, RecordKind};
+use crate::paper::guarded_places::{guarded_places, LineOfFile};
+use crate::paper::record_kinds::RecordKind;
 
 /// A place of the file header that any printable byte may take.
 const FREE_PLACE: usize = 58;
@@ -60,9 +60,9 @@ impl SownMistake {
     }
 }
 
-fn one_place_too_many(kind: RecordKind, line: &[u8], direction: Direction) -> Vec<usize> {
-    let mut places = guarded_places(kind, line, direction);
-    if kind == RecordKind::FileHeader {
+fn one_place_too_many(line: LineOfFile) -> Vec<usize> {
+    let mut places = guarded_places(line);
+    if line.kind == RecordKind::FileHeader {
         places.push(FREE_PLACE);
     }
     places

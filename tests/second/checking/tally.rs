@@ -7,27 +7,33 @@ use std::fmt;
 use crate::asking::probe::{Call, Op, Request};
 use crate::asking::replies::MALFORMED;
 use crate::checking::absence_tally::AbsenceTally;
+use crate::checking::collection_tally::CollectionTally;
 use crate::checking::due_tally::DueTally;
 use crate::checking::movement_tally::MovementTally;
 use crate::checking::part_tally::PartTally;
 use crate::checking::registration_tally::RegistrationTally;
 use crate::checking::script_tally::ScriptTally;
 use crate::paper::answers::{Answer, Verdict};
+use crate::paper::numbers::{WRONG_BLOCK_CHECK, WRONG_FIELD_CHECK};
 
 /// One column for each op, and one for all that name no op.
-const COLUMNS: [&str; 9] = ["B", "D", "C", "W", "F", "L", "P", "T", "other"];
-const NO_OP: &str = COLUMNS[8];
+const COLUMNS: [&str; 11] = ["B", "D", "C", "W", "F", "L", "P", "T", "b", "d", "other"];
+const NO_OP: &str = COLUMNS[10];
 const REQUESTS: &str = "requests";
 const ACCEPTED: &str = "OK";
 const MALFORMED_REQUEST: &str = "malformed";
-const FIELD_CHECK: u32 = 42;
+/// The numbers whose place says which of several checks is wrong.
+const OF_SEVERAL_CHECKS: [u32; 2] = [WRONG_FIELD_CHECK, WRONG_BLOCK_CHECK];
 
 /// Each answer with the columns in which it can occur. Reading a file can give
-/// every number from 1 to 23 and 26, in a whole file, in single-line calls and in
-/// parts; of a record alone 26 is never said.
+/// every number from 1 to 23, 26, 52, 53 and 55, in a whole file, in single-line
+/// calls and in parts; of a record alone those from 26 on are never said.
 /// No request is long enough for the writer to give 23 or 25.
-const ANSWERS: [(&str, &[&str]); 35] = [
-    (ACCEPTED, &["B", "D", "C", "W", "F", "L", "P", "T"]),
+const ANSWERS: [(&str, &[&str]); 42] = [
+    (
+        ACCEPTED,
+        &["B", "D", "C", "W", "F", "L", "P", "T", "b", "d"],
+    ),
     ("1", &["C", "F", "L", "T"]),
     ("2", &["F", "L", "T"]),
     ("3", &["F", "L", "T"]),
@@ -52,15 +58,22 @@ const ANSWERS: [(&str, &[&str]); 35] = [
     ("22", &["F", "L", "T"]),
     ("23", &["F", "L", "T"]),
     ("26", &["F", "L", "P", "T"]),
-    ("40", &["B", "D"]),
-    ("41", &["B", "D"]),
+    ("40", &["B", "D", "b", "d"]),
+    ("41", &["B", "D", "b", "d"]),
     ("42 at 10", &["D"]),
     ("42 at 21", &["D"]),
     ("42 at 32", &["D"]),
     ("43", &["B", "D"]),
     ("44", &["B", "D"]),
-    ("50", &["B", "D", "W", "P"]),
+    ("50", &["B", "D", "W", "P", "b", "d"]),
     ("51", &["P", "T"]),
+    ("52", &["F", "L", "P", "T", "b", "d"]),
+    ("53", &["F", "L", "P", "T", "b", "d"]),
+    ("54 at 12", &["d"]),
+    ("54 at 24", &["d"]),
+    ("54 at 36", &["d"]),
+    ("54 at 48", &["d"]),
+    ("55", &["F", "L", "P", "T", "b", "d"]),
     (MALFORMED_REQUEST, &COLUMNS),
 ];
 
@@ -75,6 +88,7 @@ pub struct Tally {
     parts: PartTally,
     absences: AbsenceTally,
     registrations: RegistrationTally,
+    collections: CollectionTally,
 }
 
 impl Tally {
@@ -87,6 +101,7 @@ impl Tally {
         }
         self.absences.count(request, answer);
         self.registrations.count(request, answer);
+        self.collections.count(request, answer);
         match request.call() {
             Some(Call::CheckFile) => {
                 self.dues.count(&request.payload, answer);
@@ -133,6 +148,7 @@ impl Tally {
         gaps.extend(self.parts.gaps());
         gaps.extend(self.absences.gaps());
         gaps.extend(self.registrations.gaps());
+        gaps.extend(self.collections.gaps());
         gaps
     }
 }
@@ -143,11 +159,9 @@ fn answer_name(verdict: Verdict) -> String {
         Verdict::Refused {
             number: MALFORMED, ..
         } => MALFORMED_REQUEST.to_string(),
-        Verdict::Refused {
-            number: FIELD_CHECK,
-            place,
-            ..
-        } => format!("{FIELD_CHECK} at {place}"),
+        Verdict::Refused { number, place, .. } if OF_SEVERAL_CHECKS.contains(&number) => {
+            format!("{number} at {place}")
+        }
         Verdict::Refused { number, .. } => number.to_string(),
     }
 }
@@ -189,6 +203,7 @@ impl fmt::Display for Tally {
             self.parts.summary(),
             self.absences.summary(),
             self.registrations.summary(),
+            self.collections.summary(),
         ];
         write!(out, "\n{}", summaries.join("\n"))
     }

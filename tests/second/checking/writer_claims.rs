@@ -2,6 +2,7 @@
 //! own: where one fails, the second program is wrong. The limits that no script
 //! is long enough for are checked only here.
 
+use crate::checking::record_room_claims;
 use crate::making::good_calls::calls_of;
 use crate::making::good_files::{any_file, file_of, BatchShape, MadeFile};
 use crate::making::movements::give_movement;
@@ -62,9 +63,10 @@ fn file_of_one_payment(random: &mut Random, kind: BatchKind) -> MadeFile {
     file_of(random, Direction::Remittance, &shapes)
 }
 
-/// Calls by their letters in a script, the room, and the last answer. Two are
-/// payments too: X of a boleto, and Y with a Z. The batch is one of credits.
-const REFUSALS: [(&str, usize, &str); 14] = [
+/// Calls by their letters in a script, the room, and the last answer. Three are
+/// payments too: X of a boleto, Y with a Z, and W of one O. The batch is one of
+/// credits.
+const REFUSALS: [(&str, usize, &str); 16] = [
     ("L", ROOM, "NO 51 1 0"),
     ("E", ROOM, "NO 51 1 0"),
     ("OO", ROOM, "NO 51 2 0"),
@@ -74,6 +76,8 @@ const REFUSALS: [(&str, usize, &str); 14] = [
     ("OLPE", ROOM, "NO 51 5 0"),
     ("OLPCEO", ROOM, "NO 51 7 0"),
     ("OLX", ROOM, "NO 11 3 14"),
+    ("OLW", ROOM, "NO 11 3 14"),
+    ("OLPW", ROOM, "NO 11 5 14"),
     ("OLY", ROOM, "NO 11 5 14"),
     ("O", 241, "NO 50 1 0"),
     ("OL", 483, "NO 50 2 0"),
@@ -86,6 +90,8 @@ fn refusals(random: &mut Random) -> Result<(), String> {
     let calls = calls_of(random, &file);
     let boletos = file_of_one_payment(random, BatchKind::Boleto);
     let boleto = calls_of(random, &boletos)[2].clone();
+    let collections = file_of_one_payment(random, BatchKind::Collection);
+    let collection = calls_of(random, &collections)[2].clone();
     let mut with_z = calls[2].clone();
     let mut z = with_z.records[1].clone();
     z.kind = RecordKind::Z;
@@ -94,6 +100,7 @@ fn refusals(random: &mut Random) -> Result<(), String> {
     for (letters, room, refusal) in REFUSALS {
         let made = letters.bytes().map(|letter| match letter {
             b'X' => boleto.clone(),
+            b'W' => collection.clone(),
             b'Y' => with_z.clone(),
             _ => {
                 let named = calls.iter().find(|call| call.kind.code() == letter);
@@ -113,6 +120,7 @@ fn limits<Rules: WriterRules + Copy>(random: &mut Random, rules: Rules) -> Resul
     let file = file_of_one_payment(random, BatchKind::Credit);
     let calls = calls_of(random, &file);
     record_limits(&calls, rules)?;
+    record_room_claims::check(random, rules)?;
     let amount = u128::from(AMOUNT_OF_A.number(&file.lines[2].bytes));
     for movement in MOVEMENTS {
         let mut calls = calls.clone();
@@ -209,7 +217,8 @@ fn cents_alone(cents: u128) -> Share {
 }
 
 /// The claims notice a writer that goes by live payments only, or by withdrawn
-/// ones: no script is long enough to show it.
+/// ones, and one that asks for other room than a batch needs: no script is long
+/// enough to show it.
 fn mistaken_limits(random: &mut Random) -> Result<(), String> {
     for (name, fault) in writer_limit_faults() {
         let noticed = limits(random, Sown::with(fault)).is_err();
@@ -219,7 +228,7 @@ fn mistaken_limits(random: &mut Random) -> Result<(), String> {
 }
 
 /// The answer to a call of a file, the state being changed before it.
-fn answer_behind<Rules: WriterRules>(
+pub fn answer_behind<Rules: WriterRules>(
     calls: &[WriterCall],
     at: usize,
     rules: Rules,

@@ -4,13 +4,14 @@
 use crate::cases::streams;
 use crate::checking::tally::Tally;
 use crate::checking::{absence_claims, digit_claims, file_claims, record_claims};
-use crate::checking::{registration_claims, writer_claims};
+use crate::checking::{collection_claims, registration_claims, writer_claims};
 use crate::comparing::compare;
 
 /// Says what agrees, or how the first request that does not is answered.
 pub fn check(command: &[String]) -> Result<(), String> {
     let barcodes = streams::accepted_barcodes();
     let guarded = digit_claims::check(&barcodes)?;
+    let codes = collection_claims::check(&streams::accepted_codes())?;
     let fixed_refused = record_claims::check()?;
     let absent = absence_claims::check()?;
     let registrations = registration_claims::check()?;
@@ -29,6 +30,18 @@ pub fn check(command: &[String]) -> Result<(), String> {
     println!(
         "changed digits at unguarded places, accepted: {} in barcodes, {} in lines",
         guarded.unguarded_accepted_in_barcodes, guarded.unguarded_accepted_in_lines
+    );
+    println!(
+        "collection codes and lines worked out apart, all as they should be: {}",
+        codes.vectors
+    );
+    println!(
+        "changed digits of collection codes and lines with a claim, all refused: {}",
+        codes.claimed_refused
+    );
+    println!(
+        "changed digits without a claim, accepted: {} in codes, {} in their lines, {} of identifiers",
+        codes.accepted_in_codes, codes.accepted_in_lines, codes.accepted_at_the_identifier
     );
     println!("changed bytes at fixed places of records, all refused: {fixed_refused}");
     println!(

@@ -3,6 +3,7 @@
 use crate::asking::probe::{untouched, Call, Request};
 use crate::asking::writer_script::{carried_out, Step};
 use crate::paper::answers::{Answer, AnswerLine};
+use crate::paper::collection_codes::{CodeConversion, CodeRules};
 use crate::paper::digit_strings::{Conversion, DigitRules};
 use crate::paper::file_reader;
 use crate::paper::parts::{PartCall, PartChecker};
@@ -14,6 +15,7 @@ use crate::paper::Paper;
 /// Whoever answers requests: the papers, or one who has mistaken them.
 pub trait Answers {
     fn convert(&self, conversion: Conversion, given: &[u8], memory: Vec<u8>) -> Answer;
+    fn convert_code(&self, conversion: CodeConversion, given: &[u8], memory: Vec<u8>) -> Answer;
     fn read(&self, subject: Subject, bytes: &[u8]) -> Answer;
     fn write(&self, subject: Subject, values: &Values, memory: Vec<u8>) -> Answer;
     fn check_file(&self, bytes: &[u8]) -> AnswerLine;
@@ -25,6 +27,10 @@ pub trait Answers {
 impl Answers for Paper {
     fn convert(&self, conversion: Conversion, given: &[u8], memory: Vec<u8>) -> Answer {
         self.converted(conversion, given, memory)
+    }
+
+    fn convert_code(&self, conversion: CodeConversion, given: &[u8], memory: Vec<u8>) -> Answer {
+        self.code_converted(conversion, given, memory)
     }
 
     fn read(&self, subject: Subject, bytes: &[u8]) -> Answer {
@@ -72,6 +78,12 @@ fn well_formed_answer(who: &impl Answers, request: &Request) -> Option<Answer> {
         }
         Call::LineToBarcode { room } => {
             who.convert(Conversion::LineToBarcode, payload, untouched(room))
+        }
+        Call::CodeToLine { room } => {
+            who.convert_code(CodeConversion::CodeToLine, payload, untouched(room))
+        }
+        Call::CodeLineToCode { room } => {
+            who.convert_code(CodeConversion::LineToCode, payload, untouched(room))
         }
         Call::ReadRecord { subject } => who.read(subject, payload),
         Call::WriteRecord { subject, room } => {

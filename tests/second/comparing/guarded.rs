@@ -7,21 +7,22 @@ use crate::checking::sown_mistakes::SownMistake;
 use crate::comparing::trials::first_failure;
 use crate::damage::changes::{Demand, Trials};
 use crate::damage::file_trials;
-use crate::damage::guarded_digits;
 use crate::damage::other_bytes::BYTES_TRIED;
+use crate::damage::{guarded_codes, guarded_digits};
 use crate::making::good_barcodes::few_of_each_check;
+use crate::making::good_codes::one_of_each_check;
 use crate::making::good_files::MadeLine;
 use crate::making::guarded_samples::{samples, Sample};
 use crate::making::random::Random;
 use crate::paper::layout_table as table;
-use crate::paper::places::{part, Part};
+use crate::paper::places::{part, Part, CODE, SEGMENT};
 use crate::paper::record_kinds::RecordKind;
 use crate::paper::registration::{type_before, Registration};
 
 const SEED: u64 = 13;
 /// One in the list of places, three in the demands on files, and two in those on
-/// digit lines.
-const SOWN_MISTAKES: usize = 6;
+/// digit lines and on collection codes.
+const SOWN_MISTAKES: usize = 8;
 /// The digits of J that only the general check looks at.
 const FREE_DIGITS: Part = part(37, 61);
 
@@ -35,12 +36,15 @@ pub fn check(command: &[String]) -> Result<(), String> {
     let made = samples.iter();
     let files: Vec<Trials> = made.map(|s| file_trials::trials_of(random, s)).collect();
     let digit_lines = trials_of_digit_lines();
+    let codes = trials_of_codes();
     // The files one by one: all requests together are too many to be held.
     for file in files.chunks(1) {
         hold(command, file)?;
     }
     hold(command, &digit_lines)?;
-    let sown = sown_mistakes(random, &samples[0], &files[0], &digit_lines);
+    hold(command, &codes)?;
+    let mut sown = sown_mistakes(random, &samples[0], &files[0], &digit_lines);
+    sown.extend(mistakes_about_codes(&codes));
     if sown.len() != SOWN_MISTAKES {
         return Err("a mistake could not be sown".to_string());
     }
@@ -48,6 +52,7 @@ pub fn check(command: &[String]) -> Result<(), String> {
         mistake.must_be_found(command)?;
     }
     report(&samples, &files, &digit_lines)?;
+    report_codes(&codes)?;
     println!("mistakes sown in these demands, all found: {SOWN_MISTAKES}");
     Ok(())
 }
@@ -57,6 +62,23 @@ fn trials_of_digit_lines() -> Vec<Trials> {
     let few = few_of_each_check(&barcodes).into_iter();
     few.map(|barcode| guarded_digits::trials_of(barcode))
         .collect()
+}
+
+/// Some with every identifier and every general check.
+fn trials_of_codes() -> Vec<Trials> {
+    let codes = streams::accepted_codes();
+    let few = one_of_each_check(&codes).into_iter();
+    few.flat_map(|code| guarded_codes::trials_of(code))
+        .collect()
+}
+
+fn mistakes_about_codes(codes: &[Trials]) -> Vec<SownMistake> {
+    let demands = [Demand::Refusal, Demand::Acceptance].into_iter();
+    let sown = demands.filter_map(|demand| {
+        let mut codes = codes.iter();
+        codes.find_map(|code| SownMistake::in_a_demand(code, demand))
+    });
+    sown.collect()
 }
 
 fn hold(command: &[String], trials: &[Trials]) -> Result<(), String> {
@@ -87,6 +109,8 @@ fn report(samples: &[Sample], files: &[Trials], digit_lines: &[Trials]) -> Resul
     let lines: usize = samples.iter().map(|sample| sample.file.lines.len()).sum();
     let weak = accepted_in(samples, files, is_free_digit);
     let registered = accepted_in(samples, files, is_in_a_checked_number);
+    let coded = accepted_in(samples, files, is_in_a_code);
+    let letters = letters_changed(files);
     println!("samples, all accepted: {}, of {lines} lines", samples.len());
     let (places, refused, accepted) = counts(files);
     let moved = count(files, Demand::OtherTotals);
@@ -95,7 +119,12 @@ fn report(samples: &[Sample], files: &[Trials], digit_lines: &[Trials]) -> Resul
     println!("changed bytes elsewhere, all accepted with the same totals: {accepted}");
     println!("of these, free digits of a barcode with general check 1: {weak}");
     println!("of these, characters of a CPF or CNPJ that stays right: {registered}");
-    println!("changed movements, all accepted with other totals: {moved}");
+    println!("of these, digits of a collection code that stays right: {coded}");
+    println!(
+        "changed movements, all accepted with other totals: {}",
+        moved - letters
+    );
+    println!("letters of an O without cents, or of its Z, all accepted: {letters}");
     let (places, refused, kept) = counts(digit_lines);
     println!(
         "digit lines, all accepted: {}, with {places} guarded places",
@@ -104,10 +133,37 @@ fn report(samples: &[Sample], files: &[Trials], digit_lines: &[Trials]) -> Resul
     println!("changed digits at guarded places, all refused: {refused}");
     println!("changed digits behind a general check 1, all accepted: {kept}");
     // Without such changes nothing would show why the claim goes no further.
-    if [accepted, weak, registered, moved, kept].contains(&0) {
+    if [
+        accepted,
+        weak,
+        registered,
+        coded,
+        moved - letters,
+        letters,
+        kept,
+    ]
+    .contains(&0)
+    {
         return Err("no change at an unguarded place was tried".to_string());
     }
     Ok(())
+}
+
+fn report_codes(codes: &[Trials]) -> Result<(), String> {
+    let (_, refused, accepted) = counts(codes);
+    println!("collection codes and lines, all accepted: {}", codes.len());
+    println!("changed digits of them with a claim, all refused: {refused}");
+    println!("changed digits of them without one that stay right, all accepted: {accepted}");
+    if accepted == 0 {
+        return Err("no change of a code without a claim was tried".to_string());
+    }
+    Ok(())
+}
+
+fn letters_changed(files: &[Trials]) -> usize {
+    let changes = files.iter();
+    let moved = changes.flat_map(|trials| trials.changes_with(Demand::OtherTotals));
+    moved.filter(|change| change.place == SEGMENT.first).count()
 }
 
 /// Guarded places, changes refused and changes accepted.
@@ -143,6 +199,10 @@ fn accepted_in(
 
 fn is_free_digit(line: &MadeLine, place: usize) -> bool {
     line.kind == RecordKind::J && FREE_DIGITS.places().contains(&place)
+}
+
+fn is_in_a_code(line: &MadeLine, place: usize) -> bool {
+    line.kind == RecordKind::O && CODE.places().contains(&place)
 }
 
 fn is_in_a_checked_number(line: &MadeLine, place: usize) -> bool {

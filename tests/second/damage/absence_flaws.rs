@@ -87,7 +87,7 @@ fn with(base: &[u8], at: usize, byte: u8) -> Vec<u8> {
 pub fn always_given(kind: RecordKind) -> Vec<Field> {
     let mut fields = table::fields(kind);
     fields.retain(|field| match field.entry {
-        Entry::Number | Entry::Identifier | Entry::Barcode => true,
+        Entry::Number | Entry::Identifier | Entry::Barcode | Entry::Code => true,
         Entry::Date | Entry::Time | Entry::OneOf(_) => true,
         Entry::Service | Entry::Form => true,
         Entry::OptionalNumber | Entry::Text | Entry::Free => false,

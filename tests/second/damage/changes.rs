@@ -8,8 +8,8 @@ pub enum Demand {
     Refusal,
     /// With the totals of the unchanged file.
     Acceptance,
-    /// With a payment that was live counted as withdrawn, or the other way
-    /// round.
+    /// With a payment that was live counted as withdrawn or the other way round, or
+    /// with one payment less.
     OtherTotals,
 }
 

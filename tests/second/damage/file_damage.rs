@@ -1,6 +1,7 @@
 //! How a good file is damaged: in one place of one line, in the order of its
 //! lines, or in the bytes as a whole.
 
+use crate::damage::collection_flaws::spoil_code;
 use crate::damage::line_flaws::{self, WRONG_LINE_ENDS};
 use crate::damage::record_flaws::{
     self, fields_to_spoil, known_contents_of, likely_byte, CODES, UNPRINTABLE,
@@ -15,16 +16,16 @@ use crate::paper::file_state::BATCH_KINDS;
 use crate::paper::layout_table as table;
 use crate::paper::lines::{LINE_BYTES, LINE_END, RECORD_BYTES};
 use crate::paper::places::{
-    Part, AMOUNT_OF_A, AMOUNT_OF_J, BANK, BARCODE, BARCODE_CENTS, BATCH_NUMBER, BATCH_RECORDS,
-    BATCH_SUM, DETAIL_NUMBER, DIRECTION, DISCOUNT, FACTOR, FILE_BATCHES, FILE_RECORDS, FINE,
-    NOMINAL, SEGMENT, SERVICE_AND_FORM, TYPE,
+    Part, AMOUNT_OF_A, AMOUNT_OF_J, AMOUNT_OF_O, BANK, BARCODE, BARCODE_CENTS, BATCH_NUMBER,
+    BATCH_RECORDS, BATCH_SUM, CODE, DETAIL_NUMBER, DIRECTION, DISCOUNT, FACTOR, FILE_BATCHES,
+    FILE_RECORDS, FINE, NOMINAL, SEGMENT, SERVICE_AND_FORM, TYPE,
 };
 use crate::paper::record_kinds::{RecordKind, Subject, RECORD_KINDS};
 
 pub type Damage = fn(&mut Random, &mut MadeFile);
 
 /// Damages of one line, which leave its kind and its turn as they are.
-pub const LINE_DAMAGES: [Damage; 10] = [
+pub const LINE_DAMAGES: [Damage; 11] = [
     any_byte,
     unprintable_byte,
     other_digit,
@@ -34,6 +35,7 @@ pub const LINE_DAMAGES: [Damage; 10] = [
     spoiled_field,
     known_content,
     boleto_digits,
+    collection_code,
     registration,
 ];
 
@@ -86,6 +88,7 @@ fn dependent_parts(kind: RecordKind) -> Vec<Part> {
     let own: &[Part] = match kind {
         RecordKind::A => &[DETAIL_NUMBER, AMOUNT_OF_A],
         RecordKind::J => &[DETAIL_NUMBER, BARCODE, NOMINAL, DISCOUNT, FINE, AMOUNT_OF_J],
+        RecordKind::O => &[DETAIL_NUMBER, CODE, AMOUNT_OF_O],
         RecordKind::B | RecordKind::J52 | RecordKind::Z => &[DETAIL_NUMBER],
         RecordKind::BatchTrailer => &[BATCH_RECORDS, BATCH_SUM],
         RecordKind::FileTrailer => &[FILE_BATCHES, FILE_RECORDS],
@@ -148,6 +151,14 @@ fn boleto_digits(random: &mut Random, file: &mut MadeFile) {
     }
     if random.coin() {
         put_general_check(line);
+    }
+}
+
+/// A code that is wrong, or nearly so.
+fn collection_code(random: &mut Random, file: &mut MadeFile) {
+    match any_line_of(random, file, RecordKind::O) {
+        Some(at) => spoil_code(random, &mut file.lines[at].bytes),
+        None => any_byte(random, file),
     }
 }
 

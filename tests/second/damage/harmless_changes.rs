@@ -6,6 +6,7 @@ use crate::damage::changes::{Change, Demand};
 use crate::making::good_files::{MadeFile, MadeLine};
 use crate::making::random::Random;
 use crate::paper::boleto_rules::{BoletoRules, BOLETO_RULES};
+use crate::paper::collection_rules::{CollectionRules, COLLECTION_RULES};
 use crate::paper::guarded_places::guarded_places;
 use crate::paper::layout_table as table;
 use crate::paper::lines::RECORD_BYTES;
@@ -20,7 +21,7 @@ pub fn harmless_changes(random: &mut Random, file: &MadeFile) -> Vec<Change> {
     let harmless = HarmlessBytes { file };
     let mut changes = Vec::new();
     for (before, line) in file.lines.iter().enumerate() {
-        let guarded = guarded_places(line.kind, &line.bytes, file.direction);
+        let guarded = guarded_places(file.line_at(before));
         let unguarded = (1..=RECORD_BYTES).filter(|place| !guarded.contains(place));
         for place in unguarded {
             let byte = harmless.byte_for(random, line, place);
@@ -74,8 +75,8 @@ impl HarmlessBytes<'_> {
     }
 
     /// Of unguarded places other lines look at the direction alone. So a line
-    /// stays good where its record does, its CPF and CNPJ numbers stay right, and
-    /// a J keeps the rules over its fields.
+    /// stays good where its record does, its CPF and CNPJ numbers stay right, a J
+    /// keeps the rules over its fields, and an O those for its code.
     fn allow(&self, line: &MadeLine) -> bool {
         let (kind, direction) = (line.kind, self.file.direction);
         let record = &line.bytes[..RECORD_BYTES];
@@ -85,8 +86,14 @@ impl HarmlessBytes<'_> {
         let is_right = |field| Paper.registration_refusal(field, subject, record).is_none();
         let mut rules = BOLETO_RULES.into_iter();
         let keeps_rules = |rule| Paper.boleto_refusal(rule, record).is_none();
+        let mut code_rules = COLLECTION_RULES.into_iter();
+        let keeps_code_rules = |rule| {
+            let refusal = Paper.collection_refusal(rule, subject, record);
+            refusal.is_none()
+        };
         alone.accepts()
             && numbers.all(is_right)
             && (kind != RecordKind::J || rules.all(keeps_rules))
+            && (kind != RecordKind::O || code_rules.all(keeps_code_rules))
     }
 }

@@ -1,6 +1,7 @@
 //! What can be wrong with one line of a file, each flaw for a number of its
 //! own. Two flaws on one line show which of them is tested first.
 
+use crate::damage::collection_flaws::{spoil_identifier, spoil_product};
 use crate::damage::due_flaws::spoil_due_date;
 use crate::damage::record_flaws::{self, fields_to_spoil, UNPRINTABLE};
 use crate::damage::registration_flaws::{any_wrong_number, put_typed};
@@ -12,7 +13,7 @@ use crate::paper::layout_table::{self as table, Field};
 use crate::paper::lines::RECORD_BYTES;
 use crate::paper::places::{
     Part, AMOUNT_OF_J, BANK, BARCODE_CENTS, BARCODE_CHECK, BATCH_NUMBER, BATCH_RECORDS, BATCH_SUM,
-    DETAIL_NUMBER, DISCOUNT, FILE_BATCHES, FILE_RECORDS, FINE, NOMINAL, SEGMENT, TYPE,
+    CODE_CHECK, DETAIL_NUMBER, DISCOUNT, FILE_BATCHES, FILE_RECORDS, FINE, NOMINAL, SEGMENT, TYPE,
 };
 use crate::paper::record_kinds::{RecordKind, Subject};
 
@@ -22,6 +23,10 @@ pub enum Flaw {
     Cents,
     Amount,
     GeneralCheck,
+    /// Of the code of an O.
+    Product,
+    Identifier,
+    CodeCheck,
     FirstCount,
     SecondCount,
     Sum,
@@ -40,8 +45,11 @@ pub enum Flaw {
 /// The check comes last, since the others make it right.
 pub const BOLETO_FLAWS: [Flaw; 4] = [Flaw::DueDate, Flaw::Cents, Flaw::Amount, Flaw::GeneralCheck];
 
+/// Here too the check comes last.
+pub const CODE_FLAWS: [Flaw; 3] = [Flaw::Product, Flaw::Identifier, Flaw::CodeCheck];
+
 const TYPES: &[u8] = b"0123459 x";
-const SEGMENTS: &[u8] = b"ABJZC 0";
+const SEGMENTS: &[u8] = b"ABJOZC 0";
 pub const WRONG_LINE_ENDS: [&[u8]; 7] =
     [b"\n\r", b"\n\n", b"\r\r", b"\r ", b" \n", b"  ", b"\x00\n"];
 
@@ -50,6 +58,7 @@ pub const WRONG_LINE_ENDS: [&[u8]; 7] =
 pub fn flaws_of(subject: Subject) -> Vec<Flaw> {
     let mut flaws = match subject.kind {
         RecordKind::J => BOLETO_FLAWS.to_vec(),
+        RecordKind::O => CODE_FLAWS.to_vec(),
         RecordKind::BatchTrailer => vec![Flaw::FirstCount, Flaw::Sum],
         RecordKind::FileTrailer => vec![Flaw::FirstCount, Flaw::SecondCount],
         kind => table::registrations(kind)
@@ -95,6 +104,9 @@ fn put(random: &mut Random, flaw: Flaw, made: &mut MadeLine) {
         Flaw::Cents => spoil_cents(random, line),
         Flaw::Amount => spoil_amount(random, line),
         Flaw::GeneralCheck => change_digit(random, BARCODE_CHECK, line),
+        Flaw::Product => spoil_product(random, line),
+        Flaw::Identifier => spoil_identifier(random, line),
+        Flaw::CodeCheck => change_digit(random, CODE_CHECK, line),
         Flaw::FirstCount if kind == RecordKind::BatchTrailer => {
             change_number(random, BATCH_RECORDS, line);
         }

@@ -10,7 +10,7 @@ use crate::paper::writer_calls::WriterCall;
 
 const LETTERS_TO_TRY: &[u8] = b"olpcemxABDFJKNQWYZ019 -\n\x00\xFF";
 const COUNTS_TO_TRY: &[u8] = b"04589 -:/\n\x00";
-const KINDS_TO_TRY: &[u8] = b"34678CDabjz -\n\x00\xFF";
+const KINDS_TO_TRY: &[u8] = b"34678CDabjoz -\n\x00\xFF";
 const NO_DIGITS_TO_TRY: &[u8] = b" +-/:A\n\x00\xFF";
 
 /// A record travels as its kind, its numbers and its text.
@@ -55,7 +55,7 @@ fn count(random: &mut Random, payload: &mut Vec<u8>, at: usize) {
     payload[at + 1] = random.pick(COUNTS_TO_TRY);
 }
 
-/// One record for a payment, or two for another call.
+/// One record for a payment, or two for another call or for one O.
 fn count_of_another_call(_: &mut Random, payload: &mut Vec<u8>, at: usize) {
     payload[at + 1] = match payload[at + 1] {
         b'1' => b'2',

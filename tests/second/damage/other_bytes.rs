@@ -13,7 +13,7 @@ const ALWAYS: [RangeInclusive<u8>; 5] =
     [b'0'..=b'9', b' '..=b' ', b'A'..=b'Z', 0..=31, 127..=u8::MAX];
 /// And where a line says what it is, all that another line says there.
 const TYPES: &[u8] = b"01359";
-const SEGMENTS: &[u8] = b"ABJZ";
+const SEGMENTS: &[u8] = b"ABJOZ";
 
 /// Sixteen bytes, none of them twice and none the byte that stands there.
 pub fn other_bytes(random: &mut Random, place: usize, byte: u8) -> Vec<u8> {

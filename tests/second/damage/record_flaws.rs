@@ -14,7 +14,7 @@ const PRINTABLE_NON_BLANKS: &[u8] = b"0195/:A-~";
 /// The neighbours of digits, capitals and small letters, and some of the last.
 const NEITHER_DIGITS_NOR_CAPITALS: &[u8] = b" /:@[`az{-~";
 /// What a field of one place may hold or be mistaken to hold.
-pub const CODES: &[u8] = b"0123456789ABCJZ abjz";
+pub const CODES: &[u8] = b"0123456789ABCJOZ abjoz";
 
 /// DDMMAAAA: month ends, leap days, the first and the last year, and no dates.
 pub const DATES: &str = "\

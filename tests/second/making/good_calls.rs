@@ -23,7 +23,7 @@ pub fn calls_of(random: &mut Random, file: &MadeFile) -> Vec<WriterCall> {
         let kind = match line.kind {
             RecordKind::FileHeader => CallKind::OpenFile,
             RecordKind::BatchHeader => CallKind::OpenBatch,
-            RecordKind::A | RecordKind::J => CallKind::Payment,
+            RecordKind::A | RecordKind::J | RecordKind::O => CallKind::Payment,
             RecordKind::BatchTrailer => CallKind::CloseBatch,
             RecordKind::FileTrailer => CallKind::CloseFile,
             RecordKind::B | RecordKind::J52 | RecordKind::Z => {
@@ -136,11 +136,8 @@ impl Frame {
             return None;
         }
         loop {
-            let batch = match kind {
-                RecordKind::A | RecordKind::B => BatchKind::Credit,
-                RecordKind::J | RecordKind::J52 => BatchKind::Boleto,
-                _ => random.pick(&BATCH_KINDS),
-            };
+            let batch = BatchKind::with_record(kind);
+            let batch = batch.unwrap_or_else(|| random.pick(&BATCH_KINDS));
             let file = small_file(random, direction, batch);
             let positions = file.positions(kind);
             if !positions.is_empty() {

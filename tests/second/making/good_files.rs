@@ -1,6 +1,7 @@
 //! Good files made at random, of every shape that document 01 allows.
 
 use crate::making::due_dates::any_due_date;
+use crate::making::good_codes::any_code;
 use crate::making::good_records::good_record;
 use crate::making::numbering::Numbering;
 use crate::making::random::Random;
@@ -8,11 +9,13 @@ use crate::making::registrations::put_right_numbers;
 use crate::paper::digit_strings::DigitRules;
 use crate::paper::due_factors::DueFactors;
 use crate::paper::file_state::{BatchKind, BATCH_KINDS};
+use crate::paper::guarded_places::LineOfFile;
 use crate::paper::layout_table::{BOLETO_FORMS, CREDIT_FORMS, CREDIT_SERVICE};
+use crate::paper::layout_table::{COLLECTION_FORM, COLLECTION_SERVICE};
 use crate::paper::lines::CENTS_LIMIT;
 use crate::paper::places::{
-    self, AMOUNT_OF_A, AMOUNT_OF_J, BANK, BARCODE, BARCODE_CENTS, BARCODE_CHECK, DIRECTION,
-    DISCOUNT, DUE, FACTOR, FINE, NOMINAL, SERVICE_AND_FORM,
+    self, AMOUNT_OF_A, AMOUNT_OF_J, AMOUNT_OF_O, BANK, BARCODE, BARCODE_CENTS, BARCODE_CHECK, CODE,
+    DIRECTION, DISCOUNT, DUE, FACTOR, FINE, NOMINAL, SERVICE_AND_FORM,
 };
 use crate::paper::record_kinds::{Direction, RecordKind, Subject, DIRECTIONS};
 use crate::paper::Paper;
@@ -63,6 +66,17 @@ impl MadeFile {
         for line in &mut self.lines {
             let record = std::mem::take(&mut line.bytes);
             line.bytes = numbering.next_line(line.kind, record);
+        }
+    }
+
+    /// With what its guarded places depend on.
+    pub fn line_at(&self, at: usize) -> LineOfFile<'_> {
+        let before = at.checked_sub(1).map(|before| self.lines[before].kind);
+        LineOfFile {
+            kind: self.lines[at].kind,
+            bytes: &self.lines[at].bytes,
+            direction: self.direction,
+            before,
         }
     }
 
@@ -130,9 +144,9 @@ impl FileMaker<'_> {
             SERVICE_AND_FORM.put(&mut header.bytes, &pair);
         }
         for _ in 0..batch.payments {
-            let (first, second) = batch.kind.payment_kinds();
-            self.add(first);
-            self.add(second);
+            for kind in batch.kind.payment_kinds() {
+                self.add(*kind);
+            }
             if self.file.direction == Direction::Return && self.random.coin() {
                 self.add(RecordKind::Z);
             }
@@ -146,6 +160,7 @@ pub fn good_pair(random: &mut Random, kind: BatchKind, direction: Direction) -> 
     match kind {
         BatchKind::Credit => [CREDIT_SERVICE, random.pick(&CREDIT_FORMS)].concat(),
         BatchKind::Boleto => [direction.boleto_service(), random.pick(&BOLETO_FORMS)].concat(),
+        BatchKind::Collection => [COLLECTION_SERVICE, COLLECTION_FORM].concat(),
     }
 }
 
@@ -158,6 +173,10 @@ pub fn record_for_a_file(random: &mut Random, kind: RecordKind, direction: Direc
         RecordKind::FileHeader => DIRECTION.put(&mut record, &[direction.code()]),
         RecordKind::A => AMOUNT_OF_A.put_number(&mut record, u128::from(any_amount(random))),
         RecordKind::J => make_boleto(random, &mut record),
+        RecordKind::O => {
+            CODE.put(&mut record, &any_code(random));
+            AMOUNT_OF_O.put_number(&mut record, u128::from(any_amount(random)));
+        }
         _ => {}
     }
     record

@@ -1,12 +1,15 @@
 //! Good records made at random: every field is filled as the table wants it,
 //! with ordinary contents as often as with those at the edge of what it allows.
 
+use crate::making::good_codes::any_code;
 use crate::making::random::Random;
 use crate::making::registrations;
 use crate::paper::calendar::{Calendar, FIRST_YEAR, LAST_YEAR, MONTHS};
 use crate::paper::digit_strings::{CURRENCY, CURRENCY_PLACE};
+use crate::paper::file_state::{BatchKind, BATCH_KINDS};
 use crate::paper::layout_table::{
-    self as table, Entry, Field, BOLETO_FORMS, CREDIT_FORMS, CREDIT_SERVICE,
+    self as table, Entry, Field, BOLETO_FORMS, COLLECTION_FORM, COLLECTION_SERVICE, CREDIT_FORMS,
+    CREDIT_SERVICE,
 };
 use crate::paper::lines::RECORD_BYTES;
 use crate::paper::record_kinds::{Direction, Subject};
@@ -57,10 +60,10 @@ pub fn good_record(random: &mut Random, subject: Subject) -> Vec<u8> {
 }
 
 fn good_pair(random: &mut Random, direction: Direction) -> (&'static [u8], &'static [u8]) {
-    if random.coin() {
-        (CREDIT_SERVICE, random.pick(&CREDIT_FORMS))
-    } else {
-        (direction.boleto_service(), random.pick(&BOLETO_FORMS))
+    match random.pick(&BATCH_KINDS) {
+        BatchKind::Credit => (CREDIT_SERVICE, random.pick(&CREDIT_FORMS)),
+        BatchKind::Boleto => (direction.boleto_service(), random.pick(&BOLETO_FORMS)),
+        BatchKind::Collection => (COLLECTION_SERVICE, COLLECTION_FORM),
     }
 }
 
@@ -71,6 +74,7 @@ fn good_content(random: &mut Random, field: Field, direction: Direction) -> Vec<
         Entry::OptionalNumber if random.below(NOT_GIVEN_ONCE_IN) == 0 => vec![BLANK; width],
         Entry::Number | Entry::OptionalNumber => digits(random, width),
         Entry::Barcode => barcode(random, width),
+        Entry::Code => code(random, width),
         Entry::Text => text(random, width),
         Entry::Date => date(random).into_bytes(),
         Entry::Time => time(random).into_bytes(),
@@ -100,6 +104,14 @@ fn barcode(random: &mut Random, width: usize) -> Vec<u8> {
     }
     barcode[CURRENCY_PLACE - 1] = CURRENCY;
     barcode
+}
+
+/// Of a record alone nobody asks whether the code is right.
+fn code(random: &mut Random, width: usize) -> Vec<u8> {
+    if random.coin() {
+        return any_code(random);
+    }
+    digits(random, width)
 }
 
 fn text(random: &mut Random, width: usize) -> Vec<u8> {

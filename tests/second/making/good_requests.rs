@@ -6,7 +6,7 @@ use crate::making::cuttings::in_lengths;
 use crate::making::good_calls::{calls_of, small_file, steps};
 use crate::making::plain_files;
 use crate::making::random::Random;
-use crate::paper::examples::{PAPER_BARCODE, PAPER_LINE};
+use crate::paper::examples::{COLLECTION_EXAMPLES, PAPER_BARCODE, PAPER_LINE};
 use crate::paper::file_state::BatchKind;
 use crate::paper::lines::{LINE_BYTES, RECORD_BYTES};
 use crate::paper::parts::PartCall;
@@ -20,7 +20,7 @@ const PART_BYTES: usize = 150;
 const FILE_TRAILER: &[u8] = b"23799999         000001000006000000";
 
 /// In the order of the ops.
-pub fn good_requests() -> [Request; 8] {
+pub fn good_requests() -> [Request; 10] {
     let mut record = FILE_TRAILER.to_vec();
     record.resize(RECORD_BYTES, b' ');
     let kind = RecordKind::FileTrailer;
@@ -31,6 +31,7 @@ pub fn good_requests() -> [Request; 8] {
     let calls = probe::payload_of_calls(lines.chunks(LINE_BYTES));
     let parts = in_parts(&lines);
     let (script, file) = good_script();
+    let (code, code_line) = COLLECTION_EXAMPLES[0];
     [
         Request::new(Op::BarcodeToLine, UNUSED, ROOM, PAPER_BARCODE.to_vec()),
         Request::new(Op::LineToBarcode, UNUSED, ROOM, PAPER_LINE.to_vec()),
@@ -40,6 +41,8 @@ pub fn good_requests() -> [Request; 8] {
         Request::new(Op::CheckLines, UNUSED, 0, calls),
         script,
         Request::new(Op::CheckParts, UNUSED, 0, parts),
+        Request::new(Op::CodeToLine, UNUSED, ROOM, code.to_vec()),
+        Request::new(Op::CodeLineToCode, UNUSED, ROOM, code_line.to_vec()),
     ]
 }
 

@@ -2,11 +2,16 @@
 //! every shape that document 01 allows. Fields are filled at random, from a
 //! seed that stays the same.
 
-use crate::making::good_files::{record_for_a_file, MadeFile, MadeLine};
+use crate::making::good_codes::code_that;
+use crate::making::good_files::{put_amount, record_for_a_file, MadeFile, MadeLine};
 use crate::making::random::Random;
-use crate::paper::guarded_places::WEAK_CHECK;
-use crate::paper::layout_table::{BOLETO_FORMS, CREDIT_SERVICE};
-use crate::paper::places::{BARCODE_CENTS, BARCODE_CHECK, FACTOR, SERVICE_AND_FORM};
+use crate::paper::collection_codes::CODE_CHECK_PLACE;
+use crate::paper::file_state::BatchKind;
+use crate::paper::guarded_places::{WEAK_CHECK, WEAK_CODE_CHECK};
+use crate::paper::layout_table::CREDIT_SERVICE;
+use crate::paper::layout_table::{BOLETO_FORMS, COLLECTION_FORM, COLLECTION_SERVICE};
+use crate::paper::places::SERVICE_AND_FORM;
+use crate::paper::places::{BARCODE_CENTS, BARCODE_CHECK, CODE, FACTOR, SEGMENT};
 use crate::paper::record_kinds::{Direction, RecordKind};
 
 /// Not every seed shows all that is demanded of the samples; with this one a live
@@ -24,13 +29,13 @@ struct Shape {
     batches: &'static [BatchPlan],
 }
 
-/// The form says whether payments are credits or boletos.
+/// The form says whether payments are credits, boletos or O records.
 struct BatchPlan {
     form: &'static [u8],
     payments: &'static [Tail],
 }
 
-/// What stands behind the two records of a payment.
+/// What stands behind the records of a payment.
 #[derive(Clone, Copy, PartialEq, Eq)]
 enum Tail {
     Bare,
@@ -39,7 +44,7 @@ enum Tail {
 
 use Tail::{Bare, Z};
 
-const SHAPES: [Shape; 9] = [
+const SHAPES: [Shape; 14] = [
     Shape {
         name: "credit remittance",
         direction: Direction::Remittance,
@@ -89,7 +94,39 @@ const SHAPES: [Shape; 9] = [
         direction: Direction::Return,
         batches: &[batch(b"45", &[Bare, Z]), batch(b"30", &[Z])],
     },
+    Shape {
+        name: "collection remittance",
+        direction: Direction::Remittance,
+        batches: &[batch(b"11", &[Bare, Bare, Bare, Bare])],
+    },
+    Shape {
+        name: "remittance of credits and collections",
+        direction: Direction::Remittance,
+        batches: &[batch(b"11", &[Bare]), batch(b"01", &[Bare])],
+    },
+    Shape {
+        name: "collection return",
+        direction: Direction::Return,
+        batches: &[batch(b"11", &[Z, Bare, Z, Bare])],
+    },
+    Shape {
+        name: "return of all three",
+        direction: Direction::Return,
+        batches: &[
+            batch(b"11", &[Bare, Z]),
+            batch(b"31", &[Z]),
+            batch(b"41", &[Z, Bare]),
+        ],
+    },
+    WITHOUT_CENTS,
 ];
+
+/// Its second O has no cents, so that its letter costs nothing.
+const WITHOUT_CENTS: Shape = Shape {
+    name: "return of two collections, the second without cents",
+    direction: Direction::Return,
+    batches: &[batch(b"11", &[Bare, Bare])],
+};
 
 const fn batch(form: &'static [u8], payments: &'static [Tail]) -> BatchPlan {
     BatchPlan { form, payments }
@@ -99,19 +136,39 @@ pub fn samples() -> Vec<Sample> {
     let mut maker = SampleMaker {
         random: Random::with_seed(SEED),
         boletos: 0,
+        collections: 0,
     };
     let shapes = SHAPES.iter();
     let samples = shapes.map(|shape| Sample {
         name: shape.name,
         file: maker.file(shape),
     });
-    samples.collect()
+    let mut samples: Vec<Sample> = samples.collect();
+    samples.extend(with_a_z_for_an_o(&samples));
+    samples
+}
+
+/// The sample without cents with a Z in the place of its second O, which says all
+/// that an O says but its letter.
+fn with_a_z_for_an_o(samples: &[Sample]) -> Option<Sample> {
+    let mut named = samples.iter();
+    let sample = named.find(|sample| sample.name == WITHOUT_CENTS.name)?;
+    let mut file = sample.file.clone();
+    let second = file.positions(RecordKind::O)[1];
+    let line = &mut file.lines[second];
+    line.kind = RecordKind::Z;
+    SEGMENT.put(&mut line.bytes, b"Z");
+    Some(Sample {
+        name: "return of a collection and a Z that might be one",
+        file,
+    })
 }
 
 struct SampleMaker {
     random: Random,
-    /// So many boletos have been made.
+    /// So many boletos have been made, and so many O records.
     boletos: usize,
+    collections: usize,
 }
 
 impl SampleMaker {
@@ -125,25 +182,30 @@ impl SampleMaker {
             self.add_batch(&mut file, plan);
         }
         self.add(&mut file, RecordKind::FileTrailer);
+        if shape.name == WITHOUT_CENTS.name {
+            let second = file.positions(RecordKind::O)[1];
+            put_amount(&mut file.lines[second], 0);
+        }
         file.renumber();
         file
     }
 
     fn add_batch(&mut self, file: &mut MadeFile, plan: &BatchPlan) {
-        let pays_boletos = BOLETO_FORMS.contains(&plan.form);
-        let (service, first, second) = if pays_boletos {
-            let service = file.direction.boleto_service();
-            (service, RecordKind::J, RecordKind::J52)
+        let (service, kind) = if BOLETO_FORMS.contains(&plan.form) {
+            (file.direction.boleto_service(), BatchKind::Boleto)
+        } else if plan.form == COLLECTION_FORM {
+            (COLLECTION_SERVICE, BatchKind::Collection)
         } else {
-            (CREDIT_SERVICE, RecordKind::A, RecordKind::B)
+            (CREDIT_SERVICE, BatchKind::Credit)
         };
         self.add(file, RecordKind::BatchHeader);
         if let Some(header) = file.lines.last_mut() {
             SERVICE_AND_FORM.put(&mut header.bytes, &[service, plan.form].concat());
         }
         for tail in plan.payments {
-            self.add(file, first);
-            self.add(file, second);
+            for record in kind.payment_kinds() {
+                self.add(file, *record);
+            }
             if *tail == Z {
                 self.add(file, RecordKind::Z);
             }
@@ -154,6 +216,7 @@ impl SampleMaker {
     fn add(&mut self, file: &mut MadeFile, kind: RecordKind) {
         let bytes = match kind {
             RecordKind::J => self.boleto(file.direction),
+            RecordKind::O => self.collection(file.direction),
             _ => record_for_a_file(&mut self.random, kind, file.direction),
         };
         file.lines.push(MadeLine { kind, bytes });
@@ -168,6 +231,23 @@ impl SampleMaker {
                 return record;
             }
         }
+    }
+}
+
+/// What decides which digits of a code are seen, one behind the other: those of
+/// modulus 11 with check 0 are not.
+const CODES: [(u8, bool); 4] = [(b'8', true), (b'6', false), (b'9', false), (b'7', true)];
+
+impl SampleMaker {
+    fn collection(&mut self, direction: Direction) -> Vec<u8> {
+        let (identifier, weak) = CODES[self.collections % CODES.len()];
+        self.collections += 1;
+        let mut record = record_for_a_file(&mut self.random, RecordKind::O, direction);
+        let code = code_that(&mut self.random, identifier, |code| {
+            (code[CODE_CHECK_PLACE - 1] == WEAK_CODE_CHECK) == weak
+        });
+        CODE.put(&mut record, &code);
+        record
     }
 }
 

@@ -100,6 +100,25 @@ pub fn changed_payment(out: &mut dyn io::Write, change: fn(&mut [u8])) -> io::Re
     file.add_changed(kind, record, change)
 }
 
+/// A file so far of one batch with so many payments of one record, and in a return a
+/// Z behind the last.
+pub fn many_collections(
+    out: &mut dyn io::Write,
+    direction: Direction,
+    payments: u64,
+) -> io::Result<PlainFile<'_>> {
+    let mut file = PlainFile::begin(out, direction)?;
+    file.open_batch(BatchKind::Collection)?;
+    for _ in 0..payments {
+        file.collection(0, HUNDRED)?;
+    }
+    if direction == Direction::Return {
+        file.z()?;
+    }
+    file.close_batch()?;
+    Ok(file)
+}
+
 /// A file of one batch.
 pub fn one_batch(out: &mut dyn io::Write, payments: u64) -> io::Result<()> {
     let mut file = PlainFile::begin(out, Direction::Remittance)?;

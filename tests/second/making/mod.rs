@@ -7,6 +7,7 @@ pub mod cuttings;
 pub mod due_dates;
 pub mod good_barcodes;
 pub mod good_calls;
+pub mod good_codes;
 pub mod good_files;
 pub mod good_records;
 pub mod good_requests;

@@ -42,7 +42,7 @@ impl MadeFile {
         let mut movement = Movement::Live;
         for line in &mut self.lines {
             match line.kind {
-                RecordKind::A | RecordKind::J => {
+                RecordKind::A | RecordKind::J | RecordKind::O => {
                     movement = Movement::of(&line.bytes);
                     let instruction = match movement {
                         Movement::Live => random.pick(&OF_WITHDRAWN_ONES),

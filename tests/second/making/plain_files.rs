@@ -7,18 +7,19 @@ use crate::making::due_dates::{due_date, DueDate};
 use crate::making::good_files::put_factor;
 use crate::making::movements::put_movement;
 use crate::making::numbering::Numbering;
-use crate::making::plain_records::{self, Bill, Payee, BANK, PAYEES};
+use crate::making::plain_records::{self, Bill, Payee, BANK, ISSUERS, PAYEES};
 use crate::making::plain_records::{LETTERED_PAYEE, MISTYPED_PAYEE};
 use crate::paper::calendar::MONTHS;
 use crate::paper::due_factors::LARGEST_FACTOR;
 use crate::paper::file_state::BatchKind;
+use crate::paper::layout_table::COLLECTION_FORM;
 use crate::paper::lines::MOST_PAYMENTS;
-use crate::paper::places::{INSTRUCTION, NOT_THERE_YET};
+use crate::paper::places::{CODE, INSTRUCTION, NOT_THERE_YET};
 use crate::paper::record_kinds::{Direction, RecordKind};
 use crate::paper::totals::Movement;
 
 /// Names of the files, as they are asked for.
-pub const NAMES: [&str; 12] = [
+pub const NAMES: [&str; 16] = [
     "one-payment",
     "boleto",
     "last-round",
@@ -30,9 +31,15 @@ pub const NAMES: [&str; 12] = [
     "half-blank",
     "lettered",
     "wrong-check-digit",
+    "collection",
+    "collection-return",
+    "wrong-code",
     "bench N",
+    "bench credit|boleto|collection N",
 ];
 const BENCH: &str = "bench";
+/// The kinds of batch of the mixed one, in turns.
+const BENCH_MIXED: [BatchKind; 2] = [BatchKind::Credit, BatchKind::Boleto];
 /// Two records each, and enough left of 999,999 for the ends of all batches.
 const MOST_BENCH_PAYMENTS: u64 = 499_900;
 
@@ -102,6 +109,7 @@ impl PlainFile<'_> {
         let form = match kind {
             BatchKind::Credit => CREDIT_FORM,
             BatchKind::Boleto => BOLETO_FORM,
+            BatchKind::Collection => COLLECTION_FORM,
         };
         let record = plain_records::batch_header(self.direction, kind, form);
         self.add(RecordKind::BatchHeader, record)
@@ -151,6 +159,25 @@ impl PlainFile<'_> {
         self.add_payment([(kind, first), second])
     }
 
+    /// Adds a payment of one record, by a code of one of the issuers.
+    pub fn collection(&mut self, issuer: usize, cents: u64) -> io::Result<()> {
+        self.changed_collection(issuer, cents, |_| {})
+    }
+
+    /// Adds one whose O is changed.
+    fn changed_collection(
+        &mut self,
+        issuer: usize,
+        cents: u64,
+        change: fn(&mut [u8]),
+    ) -> io::Result<()> {
+        self.documents += 1;
+        let issuer = &ISSUERS[issuer];
+        let (kind, mut record) = plain_records::collection_record(issuer, self.documents, cents);
+        change(&mut record);
+        self.add(kind, record)
+    }
+
     pub fn add_payment(&mut self, records: [(RecordKind, Vec<u8>); 2]) -> io::Result<()> {
         for (kind, record) in records {
             self.add(kind, record)?;
@@ -190,6 +217,7 @@ impl PlainFile<'_> {
             match kind {
                 BatchKind::Credit => self.credit(payee, cents)?,
                 BatchKind::Boleto => self.boleto(payee, bill(cents, number % 100, 0, due))?,
+                BatchKind::Collection => self.collection(payee, cents)?,
             }
         }
         self.close_batch()
@@ -235,7 +263,13 @@ pub fn write(out: &mut dyn Write, name: &[String]) -> Result<(), String> {
         }
         ["lettered"] => write_lettered(out),
         ["wrong-check-digit"] => write_wrong_check_digit(out),
-        [BENCH, payments] => write_bench(out, bench_payments(payments)?),
+        ["collection"] => write_collection(out),
+        ["collection-return"] => write_collection_return(out),
+        ["wrong-code"] => write_wrong_code(out),
+        [BENCH, payments] => write_bench(out, &BENCH_MIXED, bench_payments(payments)?),
+        [BENCH, kind, payments] => {
+            write_bench(out, &[bench_kind(kind)?], bench_payments(payments)?)
+        }
         _ => return Err(format!("no file is named {}", name.join(" "))),
     };
     let written = written.and_then(|()| out.flush());
@@ -354,6 +388,44 @@ pub fn write_wrong_check_digit(out: &mut dyn Write) -> io::Result<()> {
     file.close()
 }
 
+/// Water, power and taxes, one of them withdrawn, beside a credit.
+pub fn write_collection(out: &mut dyn Write) -> io::Result<()> {
+    let mut file = PlainFile::begin(out, Direction::Remittance)?;
+    file.open_batch(BatchKind::Collection)?;
+    file.collection(0, 18_745)?;
+    file.collection(1, 96_030)?;
+    file.changed_collection(2, 54_310, withdraw_and_exclude)?;
+    file.close_batch()?;
+    file.open_batch(BatchKind::Credit)?;
+    file.credit(0, 315_000)?;
+    file.close_batch()?;
+    file.close()
+}
+
+/// Of three payments by codes one has a Z behind it.
+pub fn write_collection_return(out: &mut dyn Write) -> io::Result<()> {
+    let mut file = PlainFile::begin(out, Direction::Return)?;
+    file.open_batch(BatchKind::Collection)?;
+    file.collection(0, 18_745)?;
+    file.z()?;
+    file.collection(3, 96_030)?;
+    file.collection(2, 54_310)?;
+    file.close_batch()?;
+    file.close()
+}
+
+/// Of two codes the second was mistyped: its last two digits are swapped.
+pub fn write_wrong_code(out: &mut dyn Write) -> io::Result<()> {
+    let mut file = PlainFile::begin(out, Direction::Remittance)?;
+    file.open_batch(BatchKind::Collection)?;
+    file.collection(0, 18_745)?;
+    file.changed_collection(2, 54_310, |record| {
+        record.swap(CODE.last - 2, CODE.last - 1);
+    })?;
+    file.close_batch()?;
+    file.close()
+}
+
 /// The two numbers that a bank leaves blank until the payment is made.
 fn put_paid(record: &mut [u8], day: &[u8], cents: &[u8]) {
     for (part, content) in NOT_THERE_YET.into_iter().zip([day, cents]) {
@@ -370,17 +442,35 @@ fn withdraw_and_exclude(record: &mut [u8]) {
     INSTRUCTION.put(record, EXCLUDED);
 }
 
-/// One half of the payments is A, B, the other J, J52, in batches as large as
+/// So many payments of these kinds, as many of each, in batches as large as
 /// they may be.
-fn write_bench(out: &mut dyn Write, payments: u64) -> io::Result<()> {
+fn write_bench(out: &mut dyn Write, kinds: &[BatchKind], payments: u64) -> io::Result<()> {
     let mut file = PlainFile::begin(out, Direction::Remittance)?;
-    let mut boletos = payments / 2;
-    let mut credits = payments - boletos;
-    while credits > 0 {
-        file.bench_batch(BatchKind::Credit, &mut credits)?;
-        file.bench_batch(BatchKind::Boleto, &mut boletos)?;
+    let mut left = shared_out(payments, kinds.len() as u64);
+    while left.iter().any(|left| *left > 0) {
+        for (kind, left) in kinds.iter().zip(&mut left) {
+            file.bench_batch(*kind, left)?;
+        }
     }
     file.close()
+}
+
+/// As many payments to each of so many kinds, the first having what is left over.
+fn shared_out(payments: u64, kinds: u64) -> Vec<u64> {
+    let each = payments / kinds;
+    let mut shares = vec![each; kinds as usize];
+    shares[0] += payments % kinds;
+    shares
+}
+
+/// The kind of batch that a long file of one kind is asked for by.
+fn bench_kind(given: &str) -> Result<BatchKind, String> {
+    match given {
+        "credit" => Ok(BatchKind::Credit),
+        "boleto" => Ok(BatchKind::Boleto),
+        "collection" => Ok(BatchKind::Collection),
+        _ => Err(format!("no kind of batch is called {given}")),
+    }
 }
 
 /// Refuses a number of payments that the long file cannot have.

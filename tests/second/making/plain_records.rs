@@ -2,14 +2,15 @@
 //! suppliers. What follows from other lines is still to be filled in.
 
 use crate::making::due_dates::DueDate;
+use crate::making::good_codes::set_code_check;
 use crate::making::good_files::put_factor;
 use crate::paper::due_factors::DueFactors;
 use crate::paper::file_state::BatchKind;
-use crate::paper::layout_table::{self as table, Entry, CREDIT_SERVICE};
+use crate::paper::layout_table::{self as table, Entry, COLLECTION_SERVICE, CREDIT_SERVICE};
 use crate::paper::lines::RECORD_BYTES;
 use crate::paper::places::{
-    AMOUNT_OF_A, AMOUNT_OF_J, BARCODE_CENTS, DIRECTION, DISCOUNT, DUE, FINE, NOMINAL,
-    SERVICE_AND_FORM,
+    part, Part, AMOUNT_OF_A, AMOUNT_OF_J, AMOUNT_OF_O, BARCODE_CENTS, CODE, DIRECTION, DISCOUNT,
+    DUE, FINE, NOMINAL, SERVICE_AND_FORM,
 };
 use crate::paper::record_kinds::{Direction, RecordKind};
 use crate::paper::Paper;
@@ -23,6 +24,39 @@ const BANK_NAME: &str = "BANCO DO VALE";
 const AGREEMENT: &str = "CONVENIO 004711";
 /// Bank and currency, then places for check, factor and cents, then 25 digits.
 const EMPTY_BARCODE: &[u8] = b"08590000000000000000104080001111100000000401";
+
+/// The eleven digits of a code behind its check.
+const CODE_VALUE: Part = part(22, 32);
+/// Product 8, issuer and identifier, then places for check and value, then 29 digits.
+const EMPTY_CODE: &[u8] = b"82600000000000000470112026121500000000123456";
+
+/// Whom the clinic pays by a code: the name, and with which digits the code begins
+/// (product, segment of the issuer, identifier).
+pub struct Issuer {
+    name: &'static str,
+    begins: &'static str,
+}
+
+/// A code of modulus 10, one of modulus 11, and one of each without a value in
+/// real money.
+pub const ISSUERS: [Issuer; 4] = [
+    Issuer {
+        name: "AGUAS DO VALE",
+        begins: "826",
+    },
+    Issuer {
+        name: "PREFEITURA DE BLUMENAU",
+        begins: "818",
+    },
+    Issuer {
+        name: "ENERGIA DA SERRA S.A.",
+        begins: "837",
+    },
+    Issuer {
+        name: "RECEITA ESTADUAL",
+        begins: "859",
+    },
+];
 
 /// Whom the clinic pays: the kind of number (1 CPF, 2 CNPJ), the number with 14
 /// characters, bank, agency, account and the street.
@@ -111,6 +145,7 @@ fn empty(kind: RecordKind) -> Vec<u8> {
                 vec![b'0'; field.width()]
             }
             Entry::Barcode => EMPTY_BARCODE.to_vec(),
+            Entry::Code => EMPTY_CODE.to_vec(),
             Entry::Date => TODAY.to_vec(),
             Entry::Time => NOW.to_vec(),
             Entry::Exact(content) => content.to_vec(),
@@ -159,6 +194,7 @@ pub fn batch_header(direction: Direction, kind: BatchKind, form: &[u8]) -> Vec<u
     let service = match kind {
         BatchKind::Credit => CREDIT_SERVICE,
         BatchKind::Boleto => direction.boleto_service(),
+        BatchKind::Collection => COLLECTION_SERVICE,
     };
     SERVICE_AND_FORM.put(&mut record, &[service, form].concat());
     put_all(&mut record, &CLINIC_CONTENTS);
@@ -227,6 +263,24 @@ pub fn boleto_records(payee: &Payee, document: u64, bill: Bill) -> [(RecordKind,
         (RecordKind::J, first),
         (RecordKind::J52, debtor_and_payee(payee)),
     ]
+}
+
+/// The value in the code is the amount, which nobody asks.
+pub fn collection_record(issuer: &Issuer, document: u64, cents: u64) -> (RecordKind, Vec<u8>) {
+    let mut record = empty(RecordKind::O);
+    let document = format!("NF {document:06}");
+    let own = [
+        (18, issuer.begins),
+        (62, issuer.name),
+        (123, document.as_str()),
+    ];
+    put_all(&mut record, &own);
+    AMOUNT_OF_O.put_number(&mut record, u128::from(cents));
+    CODE_VALUE.put_number(&mut record, u128::from(cents));
+    let mut code = CODE.of(&record).to_vec();
+    set_code_check(&mut code);
+    CODE.put(&mut record, &code);
+    (RecordKind::O, record)
 }
 
 fn debtor_and_payee(payee: &Payee) -> Vec<u8> {

@@ -8,24 +8,32 @@ use super::totals::Totals;
 pub enum BatchKind {
     Credit,
     Boleto,
+    /// Of O records.
+    Collection,
 }
 
-pub const BATCH_KINDS: [BatchKind; 2] = [BatchKind::Credit, BatchKind::Boleto];
+pub const BATCH_KINDS: [BatchKind; 3] =
+    [BatchKind::Credit, BatchKind::Boleto, BatchKind::Collection];
 
 impl BatchKind {
-    /// The first and the second record of each payment.
-    pub fn payment_kinds(self) -> (RecordKind, RecordKind) {
+    /// The records of each payment, but for a Z behind them.
+    pub fn payment_kinds(self) -> &'static [RecordKind] {
         match self {
-            BatchKind::Credit => (RecordKind::A, RecordKind::B),
-            BatchKind::Boleto => (RecordKind::J, RecordKind::J52),
+            BatchKind::Credit => &[RecordKind::A, RecordKind::B],
+            BatchKind::Boleto => &[RecordKind::J, RecordKind::J52],
+            BatchKind::Collection => &[RecordKind::O],
         }
     }
 
-    pub fn other(self) -> BatchKind {
-        match self {
-            BatchKind::Credit => BatchKind::Boleto,
-            BatchKind::Boleto => BatchKind::Credit,
-        }
+    pub fn first_kind(self) -> RecordKind {
+        self.payment_kinds()[0]
+    }
+
+    /// The kind of batch with records of this kind; trailers, headers and Z are in
+    /// all of them.
+    pub fn with_record(kind: RecordKind) -> Option<BatchKind> {
+        let mut kinds = BATCH_KINDS.into_iter();
+        kinds.find(|batch| batch.payment_kinds().contains(&kind))
     }
 }
 
@@ -33,10 +41,10 @@ impl BatchKind {
 #[derive(Clone, Copy, PartialEq, Eq)]
 pub enum Last {
     Header,
-    /// A or J.
+    /// A or J: another record is due.
     FirstRecord,
-    /// B or J52: the payment is whole.
-    SecondRecord,
+    /// B, J52 or O: the payment is whole.
+    LastRecord,
     Z,
 }
 
@@ -59,9 +67,9 @@ impl Batch {
     }
 
     /// Whether the last payment may be followed by something else than its
-    /// second record.
+    /// second record. No record is due inside an O payment.
     pub fn has_whole_payment(&self) -> bool {
-        self.last == Last::SecondRecord || self.last == Last::Z
+        self.last == Last::LastRecord || self.last == Last::Z
     }
 }
 

@@ -12,9 +12,11 @@ use super::record_kinds::{Direction, RecordKind};
 
 const LINE_ENDS: Part = part(241, 242);
 const OF_EVERY_LINE: Part = part(1, 8);
-const OF_DETAILS: Part = part(9, 14);
+const NUMBER_OF_DETAILS: Part = part(9, 13);
+const SEGMENT_OF_DETAILS: Part = part(14, 14);
 const AMOUNT_OF_A: Part = part(120, 134);
 const OF_J: [Part; 2] = [part(100, 144), part(153, 167)];
+const AMOUNT_OF_O: Part = part(108, 122);
 const OF_BATCH_TRAILERS: Part = part(18, 41);
 const OF_THE_FILE_TRAILER: Part = part(18, 29);
 const ALL_OF_THE_BARCODE: Part = part(18, 61);
@@ -24,28 +26,57 @@ const CURRENCY_AND_CHECK: Part = part(21, 22);
 /// This check stands for three remainders, so it guards fewer places.
 pub const WEAK_CHECK: u8 = b'1';
 
+/// In modulus 11 this check of a collection code stands for two remainders. The
+/// code of an O is not among the guarded places: what is claimed of it is claimed
+/// of digit strings.
+pub const WEAK_CODE_CHECK: u8 = b'0';
+
+/// A line of an accepted file, and what its guarded places depend on.
+#[derive(Clone, Copy)]
+pub struct LineOfFile<'a> {
+    pub kind: RecordKind,
+    pub bytes: &'a [u8],
+    pub direction: Direction,
+    /// What the line before it is.
+    pub before: Option<RecordKind>,
+}
+
+impl LineOfFile<'_> {
+    /// In a return an O without cents might be a Z, and the Z behind an O an O, and
+    /// every total be right still (request 5 of document 02).
+    fn has_guarded_segment(&self) -> bool {
+        let behind_o = self.kind == RecordKind::Z && self.before == Some(RecordKind::O);
+        let of_o = self.kind == RecordKind::O || behind_o;
+        !(of_o && self.direction == Direction::Return)
+    }
+}
+
 /// Each place once, from left to right.
-pub fn guarded_places(kind: RecordKind, line: &[u8], direction: Direction) -> Vec<usize> {
-    let parts = guarded_parts(kind, line, direction);
+pub fn guarded_places(line: LineOfFile) -> Vec<usize> {
+    let parts = guarded_parts(line);
     let is_guarded = |place: &usize| parts.iter().any(|part| part.places().contains(place));
     (1..=LINE_BYTES).filter(is_guarded).collect()
 }
 
 /// Parts may overlap: the type, say, is of every line and is exact content.
-fn guarded_parts(kind: RecordKind, line: &[u8], direction: Direction) -> Vec<Part> {
+fn guarded_parts(line: LineOfFile) -> Vec<Part> {
     let mut parts = vec![LINE_ENDS, OF_EVERY_LINE];
-    if kind.segment().is_some() {
-        parts.push(OF_DETAILS);
+    if line.kind.segment().is_some() {
+        parts.push(NUMBER_OF_DETAILS);
     }
-    let mut fields = table::fields(kind);
-    fields.retain(|field| is_fixed(*field, direction));
-    parts.extend(fields.iter().map(|field| part(field.first, field.last)));
-    match kind {
+    let fields = table::fields(line.kind).into_iter();
+    let fixed = fields.filter(|field| is_fixed(*field, line.direction));
+    parts.extend(fixed.map(|field| part(field.first, field.last)));
+    if !line.has_guarded_segment() {
+        parts.retain(|part| *part != SEGMENT_OF_DETAILS);
+    }
+    match line.kind {
         RecordKind::A => parts.push(AMOUNT_OF_A),
         RecordKind::J => {
             parts.extend(OF_J);
-            parts.push(guarded_part_of_barcode(line));
+            parts.push(guarded_part_of_barcode(line.bytes));
         }
+        RecordKind::O => parts.push(AMOUNT_OF_O),
         RecordKind::BatchTrailer => parts.push(OF_BATCH_TRAILERS),
         RecordKind::FileTrailer => parts.push(OF_THE_FILE_TRAILER),
         _ => {}

@@ -11,6 +11,9 @@ pub const SEGMENT_PLACE: usize = 14;
 pub const CREDIT_SERVICE: &[u8] = b"20";
 pub const CREDIT_FORMS: [&[u8]; 4] = [b"01", b"10", b"41", b"45"];
 pub const BOLETO_FORMS: [&[u8]; 2] = [b"30", b"31"];
+/// One pair in both directions (request 5 of document 02).
+pub const COLLECTION_SERVICE: &[u8] = b"29";
+pub const COLLECTION_FORM: &[u8] = b"11";
 
 /// What the table enters for a field.
 #[derive(Clone, Copy, PartialEq, Eq)]
@@ -23,6 +26,9 @@ pub enum Entry {
     /// may hold goes by the type before it (request 7 of document 02).
     Identifier,
     Barcode,
+    /// The code of an O: digits that are read as bytes, and no currency among them
+    /// (request 5 of document 02).
+    Code,
     /// T.
     Text,
     /// F.
@@ -139,6 +145,7 @@ fn own_fields(kind: RecordKind) -> &'static [Field] {
         RecordKind::B => &SEGMENT_B,
         RecordKind::J => &SEGMENT_J,
         RecordKind::J52 => &SEGMENT_J52,
+        RecordKind::O => &SEGMENT_O,
         RecordKind::Z => &SEGMENT_Z,
         RecordKind::BatchTrailer => &BATCH_TRAILER,
         RecordKind::FileTrailer => &FILE_TRAILER,
@@ -257,6 +264,20 @@ const SEGMENT_J52: [Field; 13] = [
     field(133, 147, Entry::Identifier),
     field(148, 187, Entry::Text),
     field(188, 240, Entry::Blank),
+];
+
+const SEGMENT_O: [Field; 11] = [
+    field(15, 15, MOVEMENT),
+    field(16, 17, Entry::Number),
+    field(18, 61, Entry::Code),
+    field(62, 91, Entry::Text),
+    field(92, 99, Entry::Date),
+    field(100, 107, Entry::Date),
+    field(108, 122, Entry::Number),
+    field(123, 142, Entry::Text),
+    field(143, 162, Entry::Free),
+    field(163, 230, Entry::Blank),
+    field(231, 240, Entry::BlankInRemittance),
 ];
 
 const SEGMENT_Z: [Field; 1] = [field(15, 240, Entry::Free)];

@@ -3,7 +3,7 @@
 
 use super::answers::{AnswerLine, Verdict};
 use super::file_state::{Batch, BatchKind, Last, Stage, State};
-use super::layout_table::CREDIT_SERVICE;
+use super::layout_table::{COLLECTION_SERVICE, CREDIT_SERVICE};
 use super::line_rules::LineRules;
 use super::numbers::{BEHIND_THE_END, NO_END, WRONG_LENGTH};
 use super::places::{self, BANK, SERVICE};
@@ -103,16 +103,16 @@ impl<Rules: LineRules> LineChecker<Rules> {
             batch.last = match kind {
                 RecordKind::A | RecordKind::J => Last::FirstRecord,
                 RecordKind::Z => Last::Z,
-                _ => Last::SecondRecord,
+                _ => Last::LastRecord,
             };
         }
     }
 }
 
 pub fn batch_kind(header: &[u8]) -> BatchKind {
-    if SERVICE.of(header) == CREDIT_SERVICE {
-        BatchKind::Credit
-    } else {
-        BatchKind::Boleto
+    match SERVICE.of(header) {
+        CREDIT_SERVICE => BatchKind::Credit,
+        COLLECTION_SERVICE => BatchKind::Collection,
+        _ => BatchKind::Boleto,
     }
 }

@@ -1,6 +1,7 @@
 //! The order in which document 01 tests a line of a file.
 
 use super::boleto_rules::{BoletoRule, BOLETO_RULES};
+use super::collection_rules::{CollectionRule, COLLECTION_RULES};
 use super::layout_table::{self as table, Field};
 use super::places::{Part, BATCH_RECORDS, FILE_BATCHES, FILE_RECORDS, SEGMENT, TYPE};
 use super::record_kinds::RecordKind;
@@ -23,6 +24,7 @@ pub enum Row {
     Count(Part),
     Registration(Field),
     Boleto(BoletoRule),
+    Collection(CollectionRule),
     Sum,
     Total,
 }
@@ -47,6 +49,9 @@ pub fn rows_in_order(kind: Option<RecordKind>) -> Vec<Row> {
         );
         if kind == RecordKind::J {
             rows.extend(BOLETO_RULES.map(Row::Boleto));
+        }
+        if kind == RecordKind::O {
+            rows.extend(COLLECTION_RULES.map(Row::Collection));
         }
         if kind == RecordKind::BatchTrailer {
             rows.extend([Row::Sum, Row::Total]);

@@ -2,6 +2,7 @@
 //! accepted before it.
 
 use super::boleto_rules::BoletoRules;
+use super::collection_rules::CollectionRules;
 use super::file_state::{Batch, BatchKind, Last, Stage, State};
 use super::line_order::{rows_in_order, Row};
 use super::lines::{CENTS_LIMIT, LINE_BYTES, LINE_END, MOST_BATCHES, MOST_PAYMENTS, RECORD_BYTES};
@@ -17,7 +18,7 @@ use super::Paper;
 const BATCH_NUMBER_OF_FILE_HEADER: u64 = 0;
 const BATCH_NUMBER_OF_FILE_TRAILER: u64 = 9_999;
 
-pub trait LineRules: RecordRules + BoletoRules {
+pub trait LineRules: RecordRules + BoletoRules + CollectionRules {
     /// Number and place of the first row in order that holds for the line.
     fn line_refusal(&self, state: &State, line: &[u8]) -> Option<Refusal> {
         let kind = self.kind_here(state, line);
@@ -75,9 +76,14 @@ pub trait LineRules: RecordRules + BoletoRules {
         detail_by_place(batch)
     }
 
+    /// The detail is one that may come now.
+    fn may_stand_here(&self, kind: RecordKind, batch: &Batch) -> bool {
+        kind == RecordKind::Z || kind == detail_by_place(batch)
+    }
+
     /// In a return, one after a payment; it is never a must.
     fn may_have_z(&self, state: &State, batch: &Batch) -> bool {
-        state.direction == Direction::Return && batch.last == Last::SecondRecord
+        state.direction == Direction::Return && batch.last == Last::LastRecord
     }
 
     fn direction_of(&self, state: &State, kind: RecordKind, line: &[u8]) -> Direction {
@@ -138,7 +144,8 @@ pub trait LineRules: RecordRules + BoletoRules {
                 (!right).then_some((WRONG_DETAIL_NUMBER, DETAIL_NUMBER.first))
             }
             Row::Segment => {
-                let right = is_in_turn(kind, state.batch()?, line);
+                let named = Some(SEGMENT.of(line)) == kind.segment();
+                let right = named && self.may_stand_here(kind, state.batch()?);
                 (!right).then_some((WRONG_SEGMENT, SEGMENT.first))
             }
             Row::PaymentLimit => {
@@ -151,6 +158,10 @@ pub trait LineRules: RecordRules + BoletoRules {
                 self.registration_refusal(field, Subject { kind, direction }, line)
             }
             Row::Boleto(rule) => self.boleto_refusal(rule, line),
+            Row::Collection(rule) => {
+                let direction = self.direction_of(state, kind, line);
+                self.collection_refusal(rule, Subject { kind, direction }, line)
+            }
             Row::Count(_) | Row::Sum | Row::Total => self.trailer_refusal(kind, row, state, line),
             _ => self.refusal_by_form(row, state, line),
         }
@@ -239,13 +250,8 @@ pub fn detail_by_place(batch: &Batch) -> RecordKind {
         (BatchKind::Credit, _) => RecordKind::A,
         (BatchKind::Boleto, Last::FirstRecord) => RecordKind::J52,
         (BatchKind::Boleto, _) => RecordKind::J,
+        (BatchKind::Collection, _) => RecordKind::O,
     }
-}
-
-/// The detail is one that may stand here, and its line names its segment.
-fn is_in_turn(kind: RecordKind, batch: &Batch, line: &[u8]) -> bool {
-    let has_turn = kind == RecordKind::Z || kind == detail_by_place(batch);
-    has_turn && Some(SEGMENT.of(line)) == kind.segment()
 }
 
 /// A batch header has the ordinal of the batch that it opens.

@@ -1,4 +1,4 @@
-//! The papers read again: document 01, with requests 2, 3, 7 and 13 of document
+//! The papers read again: document 01, with requests 2, 3, 5, 7 and 13 of document
 //! 02 in it, and request 1, which adds calls of its own. To be laid beside document
 //! 01, section by section:
 //!
@@ -15,6 +15,7 @@
 //! | Table of proved examples | `examples` |
 //! | (document 02) request 1 | `parts` |
 //! | .. request 2 | `layout_table`, `record_rules`, `records`, `answers` |
+//! | .. request 5 | `collection_codes`, `collection_rules`, `layout_table`, `file_state`, `writer_rules` |
 //! | .. request 7 | `registration`, `record_rules`, `line_order`, `writer_order` |
 //!
 //! A rule is a method of a trait, and its body is what the paper says. `Paper`
@@ -24,6 +25,8 @@
 pub mod answers;
 pub mod boleto_rules;
 pub mod calendar;
+pub mod collection_codes;
+pub mod collection_rules;
 pub mod digit_strings;
 pub mod due_factors;
 pub mod examples;

@@ -43,3 +43,10 @@ pub const WRONG_GENERAL_CHECK: u32 = 44;
 pub const OUTPUT_TOO_SHORT: u32 = 50;
 /// Of the writer's calls, and of those behind the end of a file in parts.
 pub const OUT_OF_TURN: u32 = 51;
+
+/// Of the codes of request 5 of document 02, in O records and in digit strings;
+/// the check of a block in digit strings alone.
+pub const WRONG_PRODUCT: u32 = 52;
+pub const WRONG_IDENTIFIER: u32 = 53;
+pub const WRONG_BLOCK_CHECK: u32 = 54;
+pub const WRONG_CODE_CHECK: u32 = 55;

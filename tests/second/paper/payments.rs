@@ -8,9 +8,9 @@ use super::totals::{Movement, Totals};
 pub struct Payment<'a> {
     /// The ordinal of its batch, from 1.
     pub batch: usize,
-    /// A or J.
+    /// A, J or O.
     pub kind: RecordKind,
-    /// A, B or J, J52, and perhaps a Z.
+    /// A, B or J, J52 or O, and perhaps a Z.
     pub records: Vec<&'a [u8]>,
 }
 
@@ -32,7 +32,8 @@ impl Payment<'_> {
     }
 
     pub fn has_z(&self) -> bool {
-        self.records.len() > 2
+        let last = self.records.last();
+        last.is_some_and(|record| SEGMENT.of(record) == b"Z")
     }
 }
 
@@ -66,6 +67,7 @@ fn first_kind(line: &[u8]) -> Option<RecordKind> {
     match SEGMENT.of(line) {
         b"A" => Some(RecordKind::A),
         b"J" => Some(RecordKind::J),
+        b"O" => Some(RecordKind::O),
         _ => None,
     }
 }

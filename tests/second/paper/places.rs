@@ -60,6 +60,7 @@ pub const MOVEMENT: Part = part(15, 15);
 pub const INSTRUCTION: Part = part(16, 17);
 pub const AMOUNT_OF_A: Part = part(120, 134);
 pub const AMOUNT_OF_J: Part = part(153, 167);
+pub const AMOUNT_OF_O: Part = part(108, 122);
 /// The numbers of an A that banks leave blank until the payment is made.
 pub const NOT_THERE_YET: [Part; 2] = [part(155, 162), part(163, 177)];
 
@@ -74,6 +75,12 @@ pub const NOMINAL: Part = part(100, 114);
 pub const DISCOUNT: Part = part(115, 129);
 pub const FINE: Part = part(130, 144);
 
+/// The code of an O stands where a J has its barcode.
+pub const CODE: Part = part(18, 61);
+pub const CODE_PRODUCT: Part = part(18, 18);
+pub const CODE_IDENTIFIER: Part = part(20, 20);
+pub const CODE_CHECK: Part = part(21, 21);
+
 pub const BATCH_RECORDS: Part = part(18, 23);
 pub const BATCH_SUM: Part = part(24, 41);
 pub const FILE_BATCHES: Part = part(18, 23);
@@ -84,6 +91,7 @@ pub fn amount(kind: RecordKind) -> Option<Part> {
     match kind {
         RecordKind::A => Some(AMOUNT_OF_A),
         RecordKind::J => Some(AMOUNT_OF_J),
+        RecordKind::O => Some(AMOUNT_OF_O),
         _ => None,
     }
 }

@@ -1,4 +1,4 @@
-//! The nine kinds of record, and the two directions of a file: what a caller
+//! The ten kinds of record, and the two directions of a file: what a caller
 //! says of a record that stands alone.
 
 #[derive(Clone, Copy, PartialEq, Eq)]
@@ -40,18 +40,20 @@ pub enum RecordKind {
     B,
     J,
     J52,
+    O,
     Z,
     BatchTrailer,
     FileTrailer,
 }
 
-pub const RECORD_KINDS: [RecordKind; 9] = [
+pub const RECORD_KINDS: [RecordKind; 10] = [
     RecordKind::FileHeader,
     RecordKind::BatchHeader,
     RecordKind::A,
     RecordKind::B,
     RecordKind::J,
     RecordKind::J52,
+    RecordKind::O,
     RecordKind::Z,
     RecordKind::BatchTrailer,
     RecordKind::FileTrailer,
@@ -74,6 +76,7 @@ impl RecordKind {
             RecordKind::A => Some(b"A"),
             RecordKind::B => Some(b"B"),
             RecordKind::J | RecordKind::J52 => Some(b"J"),
+            RecordKind::O => Some(b"O"),
             RecordKind::Z => Some(b"Z"),
             _ => None,
         }

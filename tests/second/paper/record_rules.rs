@@ -5,6 +5,7 @@ use super::answers::Verdict;
 use super::calendar::Calendar;
 use super::digit_strings::{CURRENCY, CURRENCY_PLACE};
 use super::layout_table::{self as table, Entry, Field, BOLETO_FORMS, CREDIT_FORMS};
+use super::layout_table::{COLLECTION_FORM, COLLECTION_SERVICE};
 use super::layout_table::{CREDIT_SERVICE, SEGMENT_PLACE, TYPE_PLACE};
 use super::lines::RECORD_BYTES;
 use super::numbers::{BLANK_BEFORE_TEXT, NON_DIGIT, NO_DATE_OR_TIME, OUTPUT_TOO_SHORT};
@@ -113,6 +114,11 @@ pub trait RecordRules: Calendar + RegistrationRules {
     }
 
     fn field_refusal(&self, field: Field, subject: Subject, draft: &Draft) -> Option<Refusal> {
+        self.refusal_of_field(field, subject, draft)
+    }
+
+    /// By the test that the field's entry asks for.
+    fn refusal_of_field(&self, field: Field, subject: Subject, draft: &Draft) -> Option<Refusal> {
         if field.entry == Entry::Service {
             return self.pair_refusal(field, subject, draft);
         }
@@ -157,7 +163,7 @@ pub trait RecordRules: Calendar + RegistrationRules {
     /// own.
     fn is_right(&self, field: Field, subject: Subject, content: &[u8]) -> bool {
         match field.entry {
-            Entry::Number => all_digits(content),
+            Entry::Number | Entry::Code => all_digits(content),
             Entry::Text => content[0] != b' ' || all_blank(content),
             Entry::Date => self.has_date(content),
             Entry::Time => self.has_time(content),
@@ -198,7 +204,7 @@ fn number_of_entry(entry: Entry) -> u32 {
         Entry::OneOf(_) | Entry::Service | Entry::Form => OUTSIDE_DOMAIN,
         Entry::Date | Entry::Time => NO_DATE_OR_TIME,
         Entry::Number | Entry::OptionalNumber | Entry::Identifier => NON_DIGIT,
-        Entry::Barcode | Entry::Free => NON_DIGIT,
+        Entry::Barcode | Entry::Code | Entry::Free => NON_DIGIT,
     }
 }
 
@@ -211,7 +217,8 @@ pub fn currency_refusal(field: Field, content: &[u8]) -> Option<Refusal> {
 fn is_pair([service, form]: [&[u8]; 2], direction: Direction) -> bool {
     let credit = service == CREDIT_SERVICE && CREDIT_FORMS.contains(&form);
     let boleto = service == direction.boleto_service() && BOLETO_FORMS.contains(&form);
-    credit || boleto
+    let collection = service == COLLECTION_SERVICE && form == COLLECTION_FORM;
+    credit || boleto || collection
 }
 
 pub fn all_digits(content: &[u8]) -> bool {

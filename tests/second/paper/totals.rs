@@ -5,7 +5,7 @@
 
 use super::places::MOVEMENT;
 
-/// What a payment's first record, A or J, says of it.
+/// What a payment's first record, A, J or O, says of it.
 #[derive(Clone, Copy, PartialEq, Eq, PartialOrd, Ord, Debug)]
 pub enum Movement {
     Live,

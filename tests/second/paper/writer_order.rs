@@ -1,6 +1,7 @@
 //! The order in which document 01 tests a call to the writer.
 
 use super::boleto_rules::{BoletoRule, BOLETO_RULES};
+use super::collection_rules::{CollectionRule, COLLECTION_RULES};
 use super::layout_table::{self as table, Field};
 use super::record_kinds::RecordKind;
 
@@ -16,6 +17,7 @@ pub enum Row {
     Field(usize, Field),
     Registration(usize, Field),
     Boleto(usize, BoletoRule),
+    Collection(usize, CollectionRule),
     Total,
     Room,
 }
@@ -25,7 +27,7 @@ impl Row {
     pub fn record(self) -> Option<usize> {
         match self {
             Row::Bytes(at) | Row::Segment(at) | Row::Field(at, _) => Some(at),
-            Row::Registration(at, _) | Row::Boleto(at, _) => Some(at),
+            Row::Registration(at, _) | Row::Boleto(at, _) | Row::Collection(at, _) => Some(at),
             Row::Turn | Row::Limit | Row::RecordLimit | Row::Total | Row::Room => None,
         }
     }
@@ -42,6 +44,9 @@ pub fn rows_in_order(kinds: &[RecordKind]) -> Vec<Row> {
         rows.extend(registrations.map(|field| Row::Registration(at, field)));
         if *kind == RecordKind::J {
             rows.extend(BOLETO_RULES.map(|rule| Row::Boleto(at, rule)));
+        }
+        if *kind == RecordKind::O {
+            rows.extend(COLLECTION_RULES.map(|rule| Row::Collection(at, rule)));
         }
     }
     rows.extend([Row::Total, Row::Room]);

@@ -1,7 +1,8 @@
 //! The tests of the records that a call gives to the writer: bytes, kind,
-//! fields, and the rules for boletos.
+//! fields, and the rules for boletos and for collection codes.
 
 use super::boleto_rules::{BoletoRule, BoletoRules};
+use super::collection_rules::CollectionRules;
 use super::file_state::BatchKind;
 use super::layout_table::Field;
 use super::numbers::WRONG_SEGMENT;
@@ -12,7 +13,7 @@ use super::writer_calls::CallKind;
 use super::writer_rules::Attempt;
 use super::Paper;
 
-pub trait GivenRecordRules: RecordRules + BoletoRules {
+pub trait GivenRecordRules: RecordRules + BoletoRules + CollectionRules {
     fn given_segment_refusal(&self, attempt: &Attempt, at: usize) -> Option<Refusal> {
         let right = self.kind_is_right(attempt, at);
         (!right).then_some((WRONG_SEGMENT, SEGMENT.first))
@@ -54,12 +55,10 @@ impl Attempt<'_> {
     }
 }
 
-/// Nothing where no record may stand: a remittance has no Z.
+/// Nothing where no record may stand: a remittance has no Z, and a return has one
+/// right behind the payment's own records.
 pub fn demanded_kind(batch: BatchKind, direction: Direction, at: usize) -> Option<RecordKind> {
-    let (first, second) = batch.payment_kinds();
-    match at {
-        0 => Some(first),
-        1 => Some(second),
-        _ => (direction == Direction::Return).then_some(RecordKind::Z),
-    }
+    let own = batch.payment_kinds();
+    let may_have_z = direction == Direction::Return && at == own.len();
+    own.get(at).copied().or(may_have_z.then_some(RecordKind::Z))
 }

@@ -2,6 +2,7 @@
 //! accepted before it, and on no byte of the output.
 
 use super::file_state::{Batch, Stage, State};
+use super::layout_table::{self as table, Entry};
 use super::lines::{CENTS_LIMIT, LINE_BYTES, MOST_BATCHES, MOST_PAYMENTS};
 use super::numbers::TOTAL_TOO_LARGE;
 use super::numbers::{OUTPUT_TOO_SHORT, OUT_OF_TURN, OVER_A_LIMIT, TOO_MANY_RECORDS};
@@ -16,10 +17,12 @@ use super::writer_record_rules::GivenRecordRules;
 use super::Paper;
 
 const MOST_RECORDS: u64 = 999_999;
-/// Two trailers have to find room behind every payment, and two details too
-/// behind a batch header.
+/// Two trailers have to find room behind every payment, and behind a batch header
+/// details too: one where it opens a batch of O records, and else two.
 const RECORDS_BEHIND_A_PAYMENT: u64 = 2;
-const RECORDS_BEHIND_A_HEADER: u64 = 4;
+const ONE_DETAIL: u64 = 1;
+const TWO_DETAILS: u64 = 2;
+const COLLECTION_PAIR: [Option<u64>; 2] = [Some(29), Some(11)];
 
 /// A call that is made: what it is, and what it meets.
 pub struct Attempt<'a> {
@@ -52,6 +55,16 @@ impl Attempt<'_> {
         totals
     }
 
+    /// The numbers given for service and form, of a call that opens a batch.
+    pub fn given_pair(&self) -> [Option<u64>; 2] {
+        [Entry::Service, Entry::Form].map(|entry| {
+            let fields = table::fields(self.kinds[0]).into_iter();
+            let mut given = fields.zip(&self.call.records[0].values.numbers);
+            let half = given.find(|(field, _)| field.entry == entry);
+            half.and_then(|(_, number)| *number)
+        })
+    }
+
     /// The first line the call would have written, or the line of the record
     /// with the fault.
     pub fn line(&self, row: Row) -> u64 {
@@ -78,7 +91,7 @@ pub trait WriterRules: GivenRecordRules + Filling {
             Row::Turn => (!self.is_in_turn(attempt)).then_some((OUT_OF_TURN, 0)),
             Row::Limit => self.limit_refusal(attempt),
             Row::RecordLimit => {
-                let over = passes_record_limit(attempt);
+                let over = self.passes_record_limit(attempt);
                 over.then_some((TOO_MANY_RECORDS, 0))
             }
             Row::Bytes(at) => self.byte_refusal(&attempt.drafts[at].bytes),
@@ -88,6 +101,9 @@ pub trait WriterRules: GivenRecordRules + Filling {
                 self.registration_refusal(field, attempt.subject(at), &attempt.drafts[at].bytes)
             }
             Row::Boleto(at, rule) => self.given_boleto_refusal(&attempt.drafts[at], rule),
+            Row::Collection(at, rule) => {
+                self.collection_refusal(rule, attempt.subject(at), &attempt.drafts[at].bytes)
+            }
             Row::Total => {
                 let total = self.total_written(attempt.totals());
                 (total >= CENTS_LIMIT).then_some((TOTAL_TOO_LARGE, 0))
@@ -135,6 +151,26 @@ pub trait WriterRules: GivenRecordRules + Filling {
         totals.cents()
     }
 
+    /// The records that have to find room behind those of the call.
+    fn passes_record_limit(&self, attempt: &Attempt) -> bool {
+        let behind = match attempt.call.kind {
+            CallKind::OpenBatch => {
+                self.details_behind(attempt.given_pair()) + RECORDS_BEHIND_A_PAYMENT
+            }
+            CallKind::Payment => RECORDS_BEHIND_A_PAYMENT,
+            _ => return false,
+        };
+        attempt.state.accepted_lines + attempt.records() as u64 + behind > MOST_RECORDS
+    }
+
+    /// Service and form are taken as they are given: they are not tested yet.
+    fn details_behind(&self, pair: [Option<u64>; 2]) -> u64 {
+        match pair {
+            COLLECTION_PAIR => ONE_DETAIL,
+            _ => TWO_DETAILS,
+        }
+    }
+
     /// From the place reached, which may lie behind all that is lent.
     fn has_room(&self, attempt: &Attempt) -> bool {
         let left = attempt.lent.saturating_sub(attempt.cursor);
@@ -143,12 +179,3 @@ pub trait WriterRules: GivenRecordRules + Filling {
 }
 
 impl WriterRules for Paper {}
-
-fn passes_record_limit(attempt: &Attempt) -> bool {
-    let behind = match attempt.call.kind {
-        CallKind::OpenBatch => RECORDS_BEHIND_A_HEADER,
-        CallKind::Payment => RECORDS_BEHIND_A_PAYMENT,
-        _ => return false,
-    };
-    attempt.state.accepted_lines + attempt.records() as u64 + behind > MOST_RECORDS
-}

@@ -8,6 +8,7 @@ use crate::asking::probe::Request;
 use crate::asking::writer_script::{carried_out, Step};
 use crate::comparing::expected::{answer_by, Answers};
 use crate::paper::answers::{Answer, AnswerLine};
+use crate::paper::collection_codes::{CodeConversion, CodeRules};
 use crate::paper::digit_strings::{Conversion, DigitRules};
 use crate::paper::parts::PartCall;
 use crate::paper::record_kinds::Subject;
@@ -23,6 +24,12 @@ impl Answers for Sown {
         for line in &mut answer.lines {
             line.verdict = self.named_in_a_string(line.verdict);
         }
+        answer
+    }
+
+    fn convert_code(&self, conversion: CodeConversion, given: &[u8], memory: Vec<u8>) -> Answer {
+        let mut answer = self.code_converted(conversion, given, memory);
+        self.spoil_conversion(conversion, given, &mut answer);
         answer
     }
 

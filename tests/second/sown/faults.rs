@@ -3,9 +3,11 @@
 //! either.
 
 use super::absence_faults::{AbsenceFault, ABSENCE_FAULTS};
+use super::collection_faults::{CollectionFault, COLLECTION_FAULTS};
 use super::limits::{LimitFault, LIMIT_FAULTS};
 use super::names::hyphenated;
 use super::part_faults::{PartFault, PART_FAULTS};
+use super::record_rooms::{RecordRoomFault, RECORD_ROOM_FAULTS};
 use super::registration_faults::{RegistrationFault, REGISTRATION_FAULTS};
 use super::totals::{TotalsFault, TOTALS_FAULTS};
 use super::writer_faults::{of_the_writer, WriterFault, WRITER_FAULTS};
@@ -108,17 +110,24 @@ pub enum Fault {
     Writer(WriterFault),
     WriterTotals(TotalsFault),
     WriterLimit(LimitFault),
+    WriterRecordRoom(RecordRoomFault),
     /// In this op alone.
     Absence(AbsenceFault, Op),
     Registration(RegistrationFault, Op),
+    Collection(CollectionFault, Op),
 }
+
+const CODE_OPS: [Op; 2] = [Op::CodeToLine, Op::CodeLineToCode];
 
 impl Fault {
     /// Whether a request can show the fault.
     pub fn is_about(self, request: &Request) -> bool {
         match self {
-            Fault::Absence(_, op) | Fault::Registration(_, op) => op.code() == request.op_code(),
-            _ => true,
+            Fault::Absence(_, op) | Fault::Registration(_, op) | Fault::Collection(_, op) => {
+                op.code() == request.op_code()
+            }
+            // Mistakes about boletos have to be found in requests about boletos.
+            _ => !CODE_OPS.map(Op::code).contains(&request.op_code()),
         }
     }
 }
@@ -333,6 +342,7 @@ pub fn faults_about(topic: Topic) -> Vec<(String, Fault)> {
     }
     faults.extend(absence_faults_about(topic));
     faults.extend(registration_faults_about(topic));
+    faults.extend(collection_faults_about(topic));
     faults
 }
 
@@ -359,10 +369,26 @@ fn registration_faults_about(topic: Topic) -> Vec<(String, Fault)> {
     faults
 }
 
-/// The ops that read or write records.
+fn collection_faults_about(topic: Topic) -> Vec<(String, Fault)> {
+    let mut faults = Vec::new();
+    for fault in COLLECTION_FAULTS {
+        let shown_in = ops_about(topic)
+            .iter()
+            .filter(|op| fault.ops().contains(op));
+        faults.extend(shown_in.map(|op| (fault.name(*op), Fault::Collection(*fault, *op))));
+    }
+    faults
+}
+
+/// The ops that read or write records, and those about collection codes.
 fn ops_about(topic: Topic) -> &'static [Op] {
     match topic {
-        Topic::StringsAndRecords => &[Op::ReadRecord, Op::WriteRecord],
+        Topic::StringsAndRecords => &[
+            Op::ReadRecord,
+            Op::WriteRecord,
+            Op::CodeToLine,
+            Op::CodeLineToCode,
+        ],
         Topic::Files => &[Op::CheckFile, Op::CheckLines],
         Topic::Parts => &[Op::CheckParts],
         Topic::Writer => &[Op::WriteFile],
@@ -383,7 +409,8 @@ pub fn limit_faults() -> Vec<(String, Fault)> {
 /// Mistakes of the writer that no script is long enough to show.
 pub fn writer_limit_faults() -> Vec<(String, Fault)> {
     let faults = LIMIT_FAULTS.iter();
-    faults
-        .map(|f| (of_the_writer(hyphenated(f)), Fault::WriterLimit(*f)))
-        .collect()
+    let faults = faults.map(|f| (of_the_writer(hyphenated(f)), Fault::WriterLimit(*f)));
+    let rooms = RECORD_ROOM_FAULTS.iter();
+    let rooms = rooms.map(|f| (of_the_writer(hyphenated(f)), Fault::WriterRecordRoom(*f)));
+    faults.chain(rooms).collect()
 }

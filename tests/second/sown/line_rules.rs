@@ -1,5 +1,7 @@
 //! Mistakes about one line of a file.
 
+use super::collection_faults::CollectionFault;
+use super::collection_turns;
 use super::faults::Fault;
 use super::limits;
 use super::order::move_before;
@@ -17,8 +19,11 @@ use crate::paper::record_rules::{all_digits, Refusal};
 use crate::paper::Paper;
 
 const MARK_OF_J52: &[u8] = b"52";
-/// Without a Z behind them.
-pub const RECORDS_OF_A_PAYMENT: u64 = 2;
+
+/// The records of so many payments, without a Z behind any.
+pub fn records_of(batch: &Batch, payments: u64) -> u64 {
+    batch.kind.payment_kinds().len() as u64 * payments
+}
 
 impl LineRules for Sown {
     fn line_rows(&self, kind: Option<RecordKind>) -> Vec<Row> {
@@ -32,6 +37,9 @@ impl LineRules for Sown {
         if let Some(fault) = self.registration_fault() {
             registration_order::disturb_line(&mut rows, fault);
         }
+        if let Some(fault) = self.collection_fault() {
+            collection_turns::disturb_line(&mut rows, fault);
+        }
         rows
     }
 
@@ -43,7 +51,10 @@ impl LineRules for Sown {
         let empty_taken = self.has(Fault::BatchWithoutPaymentTaken) && batch.last == Last::Header;
         let live_asked = self.has(Fault::BatchWithoutLivePaymentRefused);
         let kept_open = live_asked && batch.totals.live.payments == 0;
-        (Paper.may_close(batch) || empty_taken) && !kept_open
+        let second_due = self.collection_fault() == Some(CollectionFault::SecondRecordDue)
+            && batch.kind == BatchKind::Collection
+            && batch.details % 2 == 1;
+        (Paper.may_close(batch) || empty_taken) && !kept_open && !second_due
     }
 
     fn detail_here(&self, state: &State, batch: &Batch, line: &[u8]) -> RecordKind {
@@ -58,15 +69,29 @@ impl LineRules for Sown {
                 RecordKind::J
             };
         }
-        detail_by_place(batch)
+        let fault = self.collection_fault();
+        let taken =
+            fault.and_then(|fault| collection_turns::taken_here(fault, batch, SEGMENT.of(line)));
+        taken.unwrap_or_else(|| detail_by_place(batch))
+    }
+
+    fn may_stand_here(&self, kind: RecordKind, batch: &Batch) -> bool {
+        let fault = self.collection_fault();
+        let taken = fault.is_some_and(|fault| collection_turns::is_taken(fault, batch.kind, kind));
+        taken || Paper.may_stand_here(kind, batch)
     }
 
     fn may_have_z(&self, state: &State, batch: &Batch) -> bool {
+        let fault = self.collection_fault();
+        let mistaken = fault.and_then(|fault| collection_turns::may_have_z(fault, state, batch));
+        if let Some(may) = mistaken {
+            return may;
+        }
         let returned = state.direction == Direction::Return;
-        let second = batch.last == Last::SecondRecord;
+        let whole = batch.last == Last::LastRecord;
         match self.fault {
-            Fault::ZTakenInARemittance => second,
-            Fault::SecondZTaken => returned && (second || batch.last == Last::Z),
+            Fault::ZTakenInARemittance => whole,
+            Fault::SecondZTaken => returned && (whole || batch.last == Last::Z),
             _ => Paper.may_have_z(state, batch),
         }
     }
@@ -95,10 +120,17 @@ impl LineRules for Sown {
 
     fn count(&self, kind: RecordKind, part: Part, state: &State) -> u64 {
         let of_records = kind == RecordKind::FileTrailer && part != FILE_BATCHES;
+        let fault = self.collection_fault();
         match (self.fault, state.batch()) {
+            (_, Some(batch))
+                if fault == Some(CollectionFault::CountedAsTwoRecords)
+                    && batch.kind == BatchKind::Collection =>
+            {
+                Paper.count(kind, part, state) + batch.totals.payments()
+            }
             (Fault::TrailerCountsPayments, Some(batch)) => batch.totals.payments(),
             (Fault::LiveRecordsCounted, Some(batch)) => {
-                let left_out = RECORDS_OF_A_PAYMENT * batch.totals.withdrawn.payments;
+                let left_out = records_of(batch, batch.totals.withdrawn.payments);
                 Paper.count(kind, part, state) - left_out
             }
             (Fault::FileEndsNotCounted, None) if of_records => state.accepted_lines - 1,
@@ -115,6 +147,11 @@ impl LineRules for Sown {
     fn sum_of(&self, batch: &Batch) -> u128 {
         let right = Paper.sum_of(batch);
         match self.fault {
+            Fault::Collection(CollectionFault::AmountNotSummed, _)
+                if batch.kind == BatchKind::Collection =>
+            {
+                0
+            }
             Fault::SumOfLiveOnly => batch.totals.live.cents,
             Fault::SumOfWithdrawnOnly => batch.totals.withdrawn.cents,
             Fault::SumsIn32Bits => u128::from(right as u32),

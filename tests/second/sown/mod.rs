@@ -9,6 +9,12 @@ mod absences;
 pub mod answers;
 mod boletos;
 mod calendar;
+mod collection_faults;
+mod collection_fields;
+mod collection_records;
+mod collection_rows;
+mod collection_turns;
+mod collections;
 mod digit_strings;
 mod due_factors;
 pub mod faults;
@@ -20,6 +26,7 @@ mod order;
 mod part_faults;
 mod part_slips;
 mod parts;
+mod record_rooms;
 mod records;
 mod registration_characters;
 mod registration_faults;
@@ -36,9 +43,11 @@ mod writer_slips;
 pub use due_factors::mistaken_factors;
 
 use absence_faults::AbsenceFault;
+use collection_faults::CollectionFault;
 use faults::Fault;
 use limits::LimitFault;
 use part_faults::PartFault;
+use record_rooms::RecordRoomFault;
 use registration_faults::RegistrationFault;
 use totals::TotalsFault;
 use writer_faults::WriterFault;
@@ -70,6 +79,22 @@ impl Sown {
     fn registration_fault(self) -> Option<RegistrationFault> {
         match self.fault {
             Fault::Registration(fault, _) => Some(fault),
+            _ => None,
+        }
+    }
+
+    /// The fault, if it is one about O records and collection codes.
+    fn collection_fault(self) -> Option<CollectionFault> {
+        match self.fault {
+            Fault::Collection(fault, _) => Some(fault),
+            _ => None,
+        }
+    }
+
+    /// The fault, if it is one about the room for a batch.
+    fn record_room_fault(self) -> Option<RecordRoomFault> {
+        match self.fault {
+            Fault::WriterRecordRoom(fault) => Some(fault),
             _ => None,
         }
     }

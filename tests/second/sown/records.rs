@@ -1,11 +1,14 @@
 //! Mistakes about one record alone.
 
 use super::absences;
+use super::collection_faults::CollectionFault;
+use super::collection_fields;
 use super::faults::Fault;
 use super::order::move_before;
 use super::Sown;
 use crate::paper::answers::{Answer, FieldValue, Verdict};
 use crate::paper::calendar::Calendar;
+use crate::paper::collection_rules::{CollectionRules, COLLECTION_RULES};
 use crate::paper::layout_table::{self as table, Entry, Field, BOLETO_FORMS, CREDIT_SERVICE};
 use crate::paper::lines::RECORD_BYTES;
 use crate::paper::numbers::{NON_DIGIT, OUTSIDE_DOMAIN};
@@ -16,6 +19,8 @@ use crate::paper::records::{number_of, Records, Values};
 use crate::paper::Paper;
 
 const DIRECTION_PLACE: usize = 143;
+/// As many as 64 bits hold of any code.
+const DIGITS_OF_A_NUMBER: usize = 18;
 
 impl RecordRules for Sown {
     fn record_rows(&self, kind: RecordKind, room: Option<usize>) -> Vec<Row> {
@@ -64,6 +69,12 @@ impl RecordRules for Sown {
         {
             return true;
         }
+        let mistaken = self
+            .collection_fault()
+            .and_then(|fault| collection_fields::is_right(fault, field, subject, content));
+        if let Some(right) = mistaken {
+            return right;
+        }
         match (self.fault, field.entry) {
             (_, Entry::Date) => self.has_date(content),
             (_, Entry::Time) => self.has_time(content),
@@ -84,6 +95,21 @@ impl RecordRules for Sown {
             }
             _ => Paper.is_right(field, subject, content),
         }
+    }
+
+    fn field_refusal(&self, field: Field, subject: Subject, draft: &Draft) -> Option<Refusal> {
+        let right = self.refusal_of_field(field, subject, draft);
+        let fault = match self.collection_fault() {
+            Some(fault) if field.entry == Entry::Code => fault,
+            _ => return right,
+        };
+        if fault == CollectionFault::TestedInARecordAlone {
+            let mut rules = COLLECTION_RULES.into_iter();
+            let broken =
+                rules.find_map(|rule| Paper.collection_refusal(rule, subject, &draft.bytes));
+            return right.or(broken);
+        }
+        collection_fields::non_digit(fault, field, field.of(&draft.bytes)).or(right)
     }
 
     fn optional_number_refusal(
@@ -115,9 +141,17 @@ impl RecordRules for Sown {
     }
 
     fn pair_refusal(&self, service: Field, subject: Subject, draft: &Draft) -> Option<Refusal> {
-        let right = Paper.pair_refusal(service, subject, draft)?;
         let form = table::form_of(subject.kind)?;
         let [service_wide, form_wide] = [service, form].map(|half| draft.too_wide.contains(&half));
+        if let (Some(fault), false) = (self.collection_fault(), service_wide || form_wide) {
+            let halves = [service, form].map(|half| half.of(&draft.bytes));
+            match collection_fields::is_pair(fault, halves, subject.direction) {
+                Some(true) => return None,
+                Some(false) => return Some((OUTSIDE_DOMAIN, service.first)),
+                None => {}
+            }
+        }
+        let right = Paper.pair_refusal(service, subject, draft)?;
         let content = service.of(&draft.bytes);
         match self.fault {
             Fault::FormRefusedAtItsOwnPlace
@@ -147,6 +181,11 @@ impl Records for Sown {
             (Fault::IdentifiersReadAsNumbers, _) if field.entry == Entry::Identifier => {
                 FieldValue::Number(number_of(field.of(record)))
             }
+            (Fault::Collection(CollectionFault::CodeReadAsNumber, _), _)
+                if field.entry == Entry::Code =>
+            {
+                FieldValue::Number(number_of(&field.of(record)[..DIGITS_OF_A_NUMBER]))
+            }
             (Fault::NumbersReadIn32Bits, FieldValue::Number(number)) => {
                 FieldValue::Number(u64::from(number as u32))
             }
@@ -168,6 +207,10 @@ impl Records for Sown {
         for field in table::fields(kind) {
             let absence = self.absence_fault();
             let kept = absence.is_some_and(|fault| absences::keeps_text(fault, field, &draft));
+            let collection = self.collection_fault();
+            let kept = kept
+                || collection
+                    .is_some_and(|fault| collection_fields::keeps_text(fault, kind, field));
             if kept || self.keeps_text_at(field, &values.text) {
                 field.put(&mut draft.bytes, field.of(&values.text));
                 draft.too_wide.retain(|wide| *wide != field);

@@ -21,6 +21,7 @@ fault_list! {
     MovementOrInstruction,
     CreditsNeverWithdrawn,
     BoletosNeverWithdrawn,
+    CollectionsNeverWithdrawn,
     RemittancesWithoutWithdrawn,
     ReturnsWithoutWithdrawn,
     ToldByAnyRecord,
@@ -48,6 +49,8 @@ fault_list! {
     WithdrawnRecordsLeftOut,
     WithdrawnWithoutCentsNotCounted,
     WithdrawnNominalSummed,
+    CollectionsNotCounted,
+    CollectionCentsLeftOut,
     WithdrawnCentsIn32Bits,
     LiveCentsIn32Bits,
     WithdrawnPaymentsIn8Bits,
@@ -141,6 +144,9 @@ impl Miscount<'_> {
             TotalsFault::BoletosNeverWithdrawn => {
                 told(&|p| is_withdrawn(p) && p.kind != RecordKind::J)
             }
+            TotalsFault::CollectionsNeverWithdrawn => {
+                told(&|p| is_withdrawn(p) && p.kind != RecordKind::O)
+            }
             TotalsFault::RemittancesWithoutWithdrawn => {
                 told(&|p| is_withdrawn(p) && self.is_return)
             }
@@ -204,6 +210,11 @@ impl Miscount<'_> {
     fn live(&self, live: &[&Payment], withdrawn: &[&Payment]) -> Share {
         let (right, whole) = (share_of(live), self.whole());
         match self.fault {
+            TotalsFault::CollectionsNotCounted => without_collections(live),
+            TotalsFault::CollectionCentsLeftOut => Share {
+                cents: without_collections(live).cents,
+                ..right
+            },
             TotalsFault::LiveIsTheWhole | TotalsFault::NumbersOfDocument01 => whole,
             TotalsFault::LivePaymentsAreTheWhole => Share {
                 payments: whole.payments,
@@ -298,6 +309,12 @@ fn share_of(payments: &[&Payment]) -> Share {
         payments: payments.len() as u64,
         cents: payments.iter().map(|p| u128::from(p.cents())).sum(),
     }
+}
+
+fn without_collections(payments: &[&Payment]) -> Share {
+    let mut others = payments.to_vec();
+    others.retain(|payment| payment.kind != RecordKind::O);
+    share_of(&others)
 }
 
 fn records_of(payments: &[&Payment]) -> u64 {

@@ -1,6 +1,7 @@
 //! Mistakes of the writer around its calls: what it writes beside the records,
 //! what it counts, and the lines and places that its refusals name.
 
+use super::collection_faults::CollectionFault;
 use super::totals::{Miscount, TotalsFault};
 use super::writer_faults::WriterFault;
 use super::Sown;
@@ -27,6 +28,8 @@ pub struct SownWriter {
     pub header_at: usize,
     /// So many withdrawn payments were refused.
     refused_withdrawn: u64,
+    /// A payment of one record takes as much of the output as two.
+    lines_of_two: bool,
 }
 
 impl SownWriter {
@@ -38,6 +41,7 @@ impl SownWriter {
             accepted_calls: 0,
             header_at: 0,
             refused_withdrawn: 0,
+            lines_of_two: sown.collection_fault() == Some(CollectionFault::WrittenAsTwoLines),
         }
     }
 
@@ -153,7 +157,12 @@ impl SownWriter {
                 state.direction = Direction::Remittance;
             }
             CallKind::OpenBatch => self.header_at = before.cursor,
-            CallKind::Payment => self.spoil_batch(call, before),
+            CallKind::Payment => {
+                self.spoil_batch(call, before);
+                if self.lines_of_two && call.records.len() == 1 {
+                    self.inner.cursor += LINE_BYTES;
+                }
+            }
             _ => {}
         }
     }

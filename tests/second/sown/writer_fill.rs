@@ -1,9 +1,10 @@
 //! Mistakes in what the writer fills in, and in what it takes from the caller.
 
-use super::line_rules::RECORDS_OF_A_PAYMENT;
+use super::collection_faults::CollectionFault;
+use super::line_rules::records_of;
 use super::writer_faults::WriterFault;
 use super::Sown;
-use crate::paper::file_state::State;
+use crate::paper::file_state::{BatchKind, State};
 use crate::paper::layout_table::{self as table, Entry, Field};
 use crate::paper::places::{Part, BANK, BATCH_NUMBER, BATCH_RECORDS, BATCH_SUM, DETAIL_NUMBER};
 use crate::paper::places::{FILE_BATCHES, FILE_RECORDS};
@@ -15,6 +16,9 @@ use crate::paper::Paper;
 
 /// Narrower fields hold no number of more than 32 bits.
 const FIRST_WIDTH_OVER_32_BITS: usize = 10;
+
+/// Of all but an O.
+const RECORDS_OF_MOST_PAYMENTS: u64 = 2;
 
 impl Filling for Sown {
     fn filled_draft(&self, unfilled: Unfilled, values: &Values) -> Draft {
@@ -30,7 +34,7 @@ impl Filling for Sown {
     fn filled_number(&self, unfilled: Unfilled, field: Field, given: Option<u64>) -> Option<u64> {
         let fault = match self.writer_fault() {
             Some(fault) => fault,
-            None => return Paper.filled_number(unfilled, field, given),
+            None => return self.filled_in_a_collection(unfilled, field, given),
         };
         match filled_part(unfilled.kind, field) {
             Some(part) if keeps_number(fault, unfilled.kind, part, given) => given,
@@ -39,6 +43,29 @@ impl Filling for Sown {
                 Some(mistaken_number(fault, unfilled, part).unwrap_or(right))
             }
             None => taken_number(fault, unfilled.kind, field, given),
+        }
+    }
+}
+
+impl Sown {
+    /// The numbers of the trailer behind O records.
+    fn filled_in_a_collection(
+        self,
+        unfilled: Unfilled,
+        field: Field,
+        given: Option<u64>,
+    ) -> Option<u64> {
+        let right = Paper.filled_number(unfilled, field, given);
+        let batch = match unfilled.state.batch() {
+            Some(batch) if batch.kind == BatchKind::Collection => batch,
+            _ => return right,
+        };
+        match (self.collection_fault(), filled_part(unfilled.kind, field)) {
+            (Some(CollectionFault::AmountNotSummed), Some(BATCH_SUM)) => Some(0),
+            (Some(CollectionFault::CountedAsTwoRecords), Some(BATCH_RECORDS)) => {
+                right.map(|records| records + batch.totals.payments())
+            }
+            _ => right,
         }
     }
 }
@@ -86,7 +113,7 @@ fn details_before(fault: WriterFault, state: &State) -> Option<u64> {
         WriterFault::DetailsGoOnAcrossBatches => {
             Some(state.accepted_lines - BOTH_ENDS * state.batches)
         }
-        WriterFault::ZNotNumbered => Some(RECORDS_OF_A_PAYMENT * batch.totals.payments()),
+        WriterFault::ZNotNumbered => Some(records_of(batch, batch.totals.payments())),
         _ => None,
     }
 }
@@ -97,11 +124,9 @@ fn records_of_batch(fault: WriterFault, state: &State) -> Option<u64> {
         WriterFault::TrailerCountsPayments => Some(batch.totals.payments()),
         WriterFault::TrailerCountsDetails => Some(batch.details),
         WriterFault::TrailerCountsTheFile => Some(state.accepted_lines + 1),
-        WriterFault::ZNotCounted => {
-            Some(RECORDS_OF_A_PAYMENT * batch.totals.payments() + BOTH_ENDS)
-        }
+        WriterFault::ZNotCounted => Some(records_of(batch, batch.totals.payments()) + BOTH_ENDS),
         WriterFault::LiveRecordsCounted => {
-            let left_out = RECORDS_OF_A_PAYMENT * batch.totals.withdrawn.payments;
+            let left_out = records_of(batch, batch.totals.withdrawn.payments);
             Some(batch.details + BOTH_ENDS - left_out)
         }
         _ => None,
@@ -112,7 +137,7 @@ fn records_of_file(fault: WriterFault, state: &State) -> Option<u64> {
     match fault {
         WriterFault::FileTrailerNotCounted => Some(state.accepted_lines),
         WriterFault::ZNotCountedInTheFile => {
-            let details = RECORDS_OF_A_PAYMENT * state.totals.payments();
+            let details = RECORDS_OF_MOST_PAYMENTS * state.totals.payments();
             Some(details + BOTH_ENDS * (state.batches + 1))
         }
         _ => None,

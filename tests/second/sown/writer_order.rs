@@ -85,6 +85,7 @@ const FIELDS: i32 = 20;
 const BEHIND_FIELDS: i32 = 25;
 const REGISTRATION: i32 = 28;
 const BOLETO: i32 = 30;
+const COLLECTION: i32 = 40;
 
 const CHECK: i32 = 0;
 const DUE_DATE: i32 = 10;
@@ -102,6 +103,7 @@ impl Rank {
             Row::Field(_, field) => (RECORDS, FIELDS, field.first as i32),
             Row::Registration(_, field) => (RECORDS, REGISTRATION, field.first as i32),
             Row::Boleto(_, rule) => (RECORDS, BOLETO, place_of_rule(rule)),
+            Row::Collection(_, rule) => (RECORDS, COLLECTION, rule as i32),
             Row::Total => (TOTAL, 0, 0),
             Row::Room => (ROOM, 0, 0),
         };

@@ -1,12 +1,15 @@
 //! Mistakes about one call to the writer: its turn, its records, its limits and
 //! the room that it asks for.
 
+use super::collection_faults::CollectionFault;
+use super::collection_turns;
 use super::limits;
+use super::record_rooms;
 use super::registration_order;
 use super::writer_faults::WriterFault;
 use super::writer_order;
 use super::Sown;
-use crate::paper::file_state::{Batch, Stage};
+use crate::paper::file_state::{Batch, BatchKind, Stage, BATCH_KINDS};
 use crate::paper::layout_table::{self as table, Entry, Field};
 use crate::paper::lines::{LINE_BYTES, LINE_END, MOST_BATCHES};
 use crate::paper::numbers::NON_DIGIT;
@@ -23,7 +26,7 @@ impl GivenRecordRules for Sown {
     fn kind_is_right(&self, attempt: &Attempt, at: usize) -> bool {
         let fault = match self.writer_fault() {
             Some(fault) => fault,
-            None => return Paper.kind_is_right(attempt, at),
+            None => return self.kind_is_right_in_a_collection(attempt, at),
         };
         let given = attempt.kinds[at];
         match attempt.state.batch() {
@@ -59,6 +62,25 @@ impl GivenRecordRules for Sown {
     }
 }
 
+impl Sown {
+    /// With a fault about O records, or as the paper has it.
+    fn kind_is_right_in_a_collection(self, attempt: &Attempt, at: usize) -> bool {
+        let right = Paper.kind_is_right(attempt, at);
+        let (fault, batch) = match (self.collection_fault(), attempt.state.batch()) {
+            (Some(fault), Some(batch)) if attempt.call.kind == CallKind::Payment => (fault, batch),
+            _ => return right,
+        };
+        let given = attempt.kinds[at];
+        let in_its_batch = batch.kind == BatchKind::Collection;
+        if in_its_batch && given == RecordKind::Z {
+            let direction = attempt.state.direction;
+            return collection_turns::lets_z_pass(fault, direction, at).unwrap_or(right);
+        }
+        let alone = attempt.records() == 1 && fault == CollectionFault::SecondRecordDue;
+        (right && !(alone && in_its_batch)) || collection_turns::is_taken(fault, batch.kind, given)
+    }
+}
+
 /// A record of the wrong kind.
 fn lets_pass(fault: WriterFault, attempt: &Attempt, batch: &Batch, at: usize) -> bool {
     let given = attempt.kinds[at];
@@ -66,8 +88,8 @@ fn lets_pass(fault: WriterFault, attempt: &Attempt, batch: &Batch, at: usize) ->
     match fault {
         WriterFault::OtherTypesTakenInPayments => given.segment().is_none(),
         WriterFault::BatchKindNotTested => {
-            let (first, second) = batch.kind.other().payment_kinds();
-            [first, second].get(at) == Some(&given)
+            let mut others = BATCH_KINDS.into_iter().filter(|kind| *kind != batch.kind);
+            others.any(|kind| kind.payment_kinds().get(at) == Some(&given))
         }
         WriterFault::KindKnownByItsSegment => {
             given.segment() == demanded.and_then(RecordKind::segment)
@@ -87,6 +109,9 @@ impl WriterRules for Sown {
         }
         if let Some(fault) = self.registration_fault() {
             registration_order::disturb_call(&mut rows, fault);
+        }
+        if let Some(fault) = self.collection_fault() {
+            collection_turns::disturb_call(&mut rows, fault);
         }
         rows
     }
@@ -136,6 +161,13 @@ impl WriterRules for Sown {
         match self.writer_limit_fault() {
             Some(fault) => limits::cents(fault, totals),
             None => Paper.total_written(totals),
+        }
+    }
+
+    fn details_behind(&self, pair: [Option<u64>; 2]) -> u64 {
+        match self.record_room_fault() {
+            Some(fault) => record_rooms::details(fault, pair),
+            None => Paper.details_behind(pair),
         }
     }
 

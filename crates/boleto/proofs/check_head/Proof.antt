@@ -1,52 +1,22 @@
 -- `boleto::check_head` meets its contract. Assumes nothing.
-use mathlib.Core.Path.{_≡_, _∙_}
-use mathlib.Core.Logic.{_≢_}
-use native.Mathlib.Omega.{arith}
 use borrow.Author.Needs.{needs}
-use borrow.Author.Tests.{eq-eqb, ne-eqb}
-use lib.ListN.{length}
-use Rattle.answer.specs.laws.Order.{past, here}
-use Rattle.digits.specs.Digits.{leading}
-use Rattle.digits.specs.laws.Strings.{leading-le}
+use Rattle.answer.specs.laws.Order.{joined}
 use Rattle.boleto.specs.Rules.{headRules}
 use Rattle.boleto.proofs.check_head.Statement.{statement}
 use Rattle.boleto.proofs.check_head.Tie as tie
 
 returns : tie.Need-returns
 unfolding headRules
-returns c = c .refused .ensures ∙ here _ _ _ _ (ne-eqb _ _ (c .before .if1 .taken))
-
-add-refused : tie.Need-add-refused
-add-refused c = omega (arith, leading-le (c .before .before .before .before .args .s .now))
-
-returns-2 : tie.Need-returns-2
-unfolding headRules
-returns-2 c =
-    let at-if = c .before in
-    let s = at-if .before .before .before .before .args .s .now in
-    let long = eq-eqb _ _ (at-if .before .before .if1 .left) in
-    let some : leading s ≢ length s = omega arith in
-    past _ _ _ _ _ long (rw (c .refused2 .ensures, at-if .before .leading .ensures) (here _ _ _ _ (ne-eqb _ _ some)))
-
-returns-3 : tie.Need-returns-3
-unfolding headRules
-returns-3 c =
-    let at-if = c .before .before in
-    let s = at-if .before .before .before .before .args .s .now in
-    let long = eq-eqb _ _ (at-if .before .before .if1 .left) in
-    let all : leading s ≡ length s = omega arith in
-    past _ _ _ _ _ long (past _ _ _ _ _ (eq-eqb _ _ all) (c .test .ensures ∙ rw (c .before .currency-fits .ensures)))
+returns c =
+    let t = c .before in
+    joined (c .and-then .ensures) _ _ (t .before .before .check-string .ensures) (rw (t .test .ensures, t .before .currency-fits .ensures))
 
 pub check-head-spec : {M : Type 1} → statement M
 check-head-spec =
     tie.close
     (tie.spec
     (λ c κs. search needs)
-    returns
-    (λ c κs. search needs)
-    add-refused
-    (λ c κs. search needs)
-    returns-2
     (λ c κs. search needs)
     (λ c κs. search needs)
-    returns-3)
+    (λ c κs. search needs)
+    returns)

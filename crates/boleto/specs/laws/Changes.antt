@@ -6,37 +6,27 @@ use mathlib.Core.List.{List, _∷_, _++_, append-assoc}
 use Prim.Native.Nat.{ℕ, suc, _+_, _-_, _<_, _≤_}
 use native.Mathlib.Omega.{arith}
 use native.Mathlib.Decide.{decLt}
-use lib.ListN.{length, getD, take, drop, set, length-set, length-take, length-drop, length-append}
+use lib.ListN.{length, getD, take, drop, set, length-take, length-drop, length-append}
 use lib.Seq.{getD-set-same, set-append-left, set-getD, getD-append-seam, getD-append-add}
-use lib.Dec.{T, eqb, eqb→eq, not-T}
+use lib.Dec.{T}
 use Rattle.answer.specs.Rules.{firstBroken}
 use Rattle.answer.specs.declared.Answer.the-variants.{Accepted}
 use Rattle.digits.specs.Digits.{digitByte, place}
-use Rattle.digits.specs.laws.Strings.{Digit, Digits, part-set, part-kept, part-getD, set-append-right}
-use Rattle.digits.specs.laws.Moduli.{ten-tells-digits, eleven-tells-digits}
+use Rattle.digits.specs.laws.Strings.{Digits, part-set, part-kept, set-append-right}
+use Rattle.digits.specs.laws.Moduli.{blind, ten-tells-digits, eleven-tells-digits}
 use Rattle.digits.specs.laws.Seals.{Sealed, one-change, neighbours}
 use Rattle.digits.specs.declared.sealing.Modulus.the-variants.{Ten, Eleven}
 use Rattle.boleto.specs.Strings.{barcodeDigits, lineDigits, barcodeCheck, lineCheck, barcodeOf}
 use Rattle.boleto.specs.Rules.{barcodeRules, digitLineRules}
 use Rattle.boleto.specs.Guarded.{GuardedInBarcode, GuardedInLine, all, currency, check, checked, rest}
+use Rattle.boleto.specs.laws.Parts.{stored-digit, other-than, part-same}
 use Rattle.boleto.specs.laws.Accepted.{Barcode, Line, barcode-of, line-of}
 use Rattle.boleto.specs.laws.Conversions.{barcode-long}
-
--- a check digit other than 1
-abbrev sharp : ℕ → Type 0
-sharp b = T (not (eqb (b - 48) 1))
-
-sharp-of : (b : ℕ) → 48 ≤ b → b ≢ digitByte 1 → sharp b
-sharp-of b lo ne = not-T (eqb (b - 48) 1) (λ t. ne (omega (arith, eqb→eq (b - 48) 1 t)))
-
--- a byte stored among digits is a digit
-stored-digit : (bs : List ℕ) (i v : ℕ) → i < length bs → Digits (set bs i v) → Digit v
-stored-digit bs i v h ds = let d = ds .each i (omega (arith, length-set bs i v)) in omega (arith, getD-set-same bs i v 0 h)
 
 -- ---- the barcode
 
 module _ (bar : List ℕ) (i v : ℕ) (b : Barcode bar) (b′ : Barcode (set bar i v)) (h : i < barcodeDigits) where
-  barcode-same : (i ≢ 4 → sharp (getD bar 4 0)) → v ≡ getD bar i 0
+  barcode-same : (i ≢ 4 → T (not (blind Eleven (getD bar 4 0 - 48)))) → v ≡ getD bar i 0
   barcode-same f =
       let hi : i < length bar = omega arith in
       one-change Eleven bar 4 i v (omega arith) hi (b .seal) (b′ .seal) eleven-tells-digits (b .digits .each i hi) (stored-digit bar i v hi (b′ .digits)) f
@@ -46,7 +36,7 @@ pub barcode-change : (bar : List ℕ) (p v : ℕ) → firstBroken (barcodeRules 
     firstBroken (barcodeRules (set bar (p - 1) v)) ≢ Accepted
 barcode-change bar p v e (all f lo up) ne e′ =
     let b = barcode-of bar e in
-    ne (barcode-same bar (p - 1) v b (barcode-of (set bar (p - 1) v) e′) (omega arith) (λ _. sharp-of _ (b .digits .each 4 (omega arith) .0) f))
+    ne (barcode-same bar (p - 1) v b (barcode-of (set bar (p - 1) v) e′) (omega arith) (λ _. other-than 1 _ (b .digits .each 4 (omega arith) .0) f))
 barcode-change bar p v e currency ne e′ =
     let b = barcode-of bar e in
     let b′ = barcode-of (set bar 3 v) e′ in
@@ -63,20 +53,14 @@ barcode-neighbours xs zs a b e f w ne e′ =
     let long = length-append xs (a ∷ b ∷ zs) in
     let da = rw (getD-append-seam xs a (b ∷ zs) 0) at (c .digits .each (length xs) (omega arith)) in
     let db = rw (getD-append-add xs (a ∷ b ∷ zs) 1 0) at (c .digits .each (length xs + 1) (omega arith)) in
-    ne (neighbours xs zs a b 4 (c .seal) (c′ .seal) da db (⊎-elim (λ l. inr (omega arith)) (λ g. inl g) w) (sharp-of _ (c .digits .each 4 (omega arith) .0) f))
+    ne (neighbours xs zs a b 4 (c .seal) (c′ .seal) da db (⊎-elim (λ l. inr (omega arith)) (λ g. inl g) w) (other-than 1 _ (c .digits .each 4 (omega arith) .0) f))
 
 -- ---- the line
 
 -- a field: n digits from index a on, and their check digit
 field-same : (l : List ℕ) (a n i v : ℕ) → a + suc n ≤ length l → a ≤ i → i < a + suc n → Digits l → Digits (set l i v) →
     Sealed Ten n (take (suc n) (drop a l)) → Sealed Ten n (take (suc n) (drop a (set l i v))) → v ≡ getD l i 0
-field-same l a n i v fits lo up ds ds′ s s′ =
-    let f = take (suc n) (drop a l) in
-    let long : length f ≡ suc n = simp (length-take, length-drop) (omega arith) in
-    let same = part-getD l a (suc n) i v lo up in
-    one-change Ten f n (i - a) v (omega arith) (omega arith) s (rw (part-set l a (suc n) i v lo up) at s′) ten-tells-digits (rw same (ds .each i (omega arith)))
-    (stored-digit l i v (omega arith) ds′) (λ _. tt)
-    ∙ same
+field-same l a n i v fits lo up ds ds′ s s′ = part-same Ten ten-tells-digits l a n i v fits lo up ds ds′ s s′ (λ _. tt)
 
 -- the last fifteen of a line, in its barcode
 tail : (l : List ℕ) (i v : ℕ) → length l ≡ lineDigits → 32 ≤ i → i < lineDigits → barcodeOf (set l i v) ≡ set (barcodeOf l) (i - 28) v
@@ -101,7 +85,7 @@ module _ (l : List ℕ) (i v : ℕ) (a : Line l) (a′ : Line (set l i v)) (h : 
       let same = tail-getD l i (a .long) lo h in
       one-change Eleven (barcodeOf l) 4 (i - 28) v (omega arith) (omega arith) (a .seal) (rw (tail l i v (a .long) lo h) at (a′ .seal)) eleven-tells-digits (rw same (a .digits .each i (omega arith)))
       (stored-digit l i v (omega arith) (a′ .digits))
-      (λ ne. rw (tail-getD l 32 (a .long) (omega arith) (omega arith)) (sharp-of _ (a .digits .each 32 (omega arith) .0) (f (omega arith))))
+      (λ ne. rw (tail-getD l 32 (a .long) (omega arith) (omega arith)) (other-than 1 _ (a .digits .each 32 (omega arith) .0) (f (omega arith))))
       ∙ same
 
   line-same : Dec (i < 10) → Dec (i < 21) → Dec (i < 32) → v ≡ getD l i 0

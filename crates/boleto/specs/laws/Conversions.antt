@@ -1,21 +1,19 @@
 -- From the barcode to the line and back: the same digits, and both accepted. Assumes nothing.
-use mathlib.Core.Path.{_≡_, sym, _∙_, subst}
-use mathlib.Core.List.{List, [], _∷_}
+use mathlib.Core.Path.{_≡_, sym, subst}
+use mathlib.Core.List.{List}
 use Prim.Native.Nat.{ℕ, _≤_}
-use native.Mathlib.Omega.{arith}
 use lib.ListN.{length, getD, take}
 use Rattle.answer.specs.Rules.{firstBroken}
 use Rattle.answer.specs.Output.{Writes}
-use Rattle.answer.specs.laws.Frame.{is-accepted, handed-on}
 use Rattle.answer.specs.declared.Answer.{Answer}
 use Rattle.answer.specs.declared.Answer.the-variants.{Accepted}
-use Rattle.digits.specs.Digits.{digitByte, places}
-use Rattle.digits.specs.Checks.{checkDigit}
-use Rattle.digits.specs.laws.Strings.{Digits, tab, spelled-out, digits-nil, digits-cons, digits-append, digits-take, digits-drop}
-use Rattle.digits.specs.laws.Seals.{Sealed, check-small}
+use Rattle.digits.specs.Digits.{places}
+use Rattle.digits.specs.laws.Strings.{Digits, tab, spelled-out, digits-append, digits-take, digits-drop}
+use Rattle.digits.specs.laws.Seals.{Sealed}
 use Rattle.digits.specs.declared.sealing.Modulus.the-variants.{Ten}
 use Rattle.boleto.specs.Strings.{barcodeDigits, lineDigits, digitLineOf, barcodeOf}
 use Rattle.boleto.specs.Rules.{barcodeRules, digitLineRules}
+use Rattle.boleto.specs.laws.Parts.{check-digits, calls}
 use Rattle.boleto.specs.laws.Accepted.{Barcode, Line, barcode-of, line-of, of-barcode, of-line}
 
 pub barcode-long : (l : List ℕ) → length l ≡ lineDigits → length (barcodeOf l) ≡ barcodeDigits
@@ -44,9 +42,6 @@ line-back l h = subst (λ (l : List ℕ). Fields l → digitLineOf (barcodeOf l)
 barcode-digits : (l : List ℕ) → Digits l → Digits (barcodeOf l)
 unfolding barcodeOf
 barcode-digits l ds = search (digits-append, digits-take, digits-drop) depth 8
-
-check-digits : (bs : List ℕ) → Digits (digitByte (checkDigit Ten bs) ∷ [])
-check-digits bs = let s = check-small Ten bs in digits-cons (omega arith) digits-nil
 
 line-digits : (bar : List ℕ) → Digits bar → Digits (digitLineOf bar)
 unfolding digitLineOf
@@ -90,30 +85,24 @@ line-there-and-back l e =
 
 -- ---- the same of the calls, whatever memory with room they are lent
 
--- a barcode whose rules are kept is accepted; the line that it left is accepted, and leaves that barcode
+-- a barcode whose rules are kept is accepted, and leaves its line, which is accepted and leaves that barcode
 pub barcode-calls : (bar : List ℕ) {out out′ after after′ : List ℕ} {a b : Answer} →
     firstBroken (barcodeRules bar) ≡ Accepted → lineDigits ≤ length out → barcodeDigits ≤ length out′ →
     let line = take lineDigits after in
     Writes (barcodeRules bar) lineDigits (digitLineOf bar) out a after →
     Writes (digitLineRules line) barcodeDigits (barcodeOf line) out′ b after′ →
-    (a ≡ Accepted) × (b ≡ Accepted) × (take barcodeDigits after′ ≡ bar)
-barcode-calls bar e room room′ there back =
-    let ok = is-accepted e room there in
+    (a ≡ Accepted) × (line ≡ digitLineOf bar) × (b ≡ Accepted) × (take barcodeDigits after′ ≡ bar)
+barcode-calls bar e =
     let long = line-long bar (barcode-of bar e .long) in
-    let t = barcode-there-and-back bar e in
-    let r = handed-on digitLineRules barcodeOf long (t .0) (barcode-long (digitLineOf bar) long) room′ (rw ok at there) back in
-    (ok, r .0, r .1 ∙ t .1)
+    calls barcodeRules digitLineRules digitLineOf barcodeOf bar long (barcode-long (digitLineOf bar) long) (barcode-there-and-back bar e) e
 
--- a line whose rules are kept is accepted; the barcode that it left is accepted, and leaves that line
+-- a line whose rules are kept is accepted, and leaves its barcode, which is accepted and leaves that line
 pub line-calls : (l : List ℕ) {out out′ after after′ : List ℕ} {a b : Answer} →
     firstBroken (digitLineRules l) ≡ Accepted → barcodeDigits ≤ length out → lineDigits ≤ length out′ →
     let bar = take barcodeDigits after in
     Writes (digitLineRules l) barcodeDigits (barcodeOf l) out a after →
     Writes (barcodeRules bar) lineDigits (digitLineOf bar) out′ b after′ →
-    (a ≡ Accepted) × (b ≡ Accepted) × (take lineDigits after′ ≡ l)
-line-calls l e room room′ there back =
-    let ok = is-accepted e room there in
+    (a ≡ Accepted) × (bar ≡ barcodeOf l) × (b ≡ Accepted) × (take lineDigits after′ ≡ l)
+line-calls l e =
     let long = barcode-long l (line-of l e .long) in
-    let t = line-there-and-back l e in
-    let r = handed-on barcodeRules digitLineOf long (t .0) (line-long (barcodeOf l) long) room′ (rw ok at there) back in
-    (ok, r .0, r .1 ∙ t .1)
+    calls digitLineRules barcodeRules barcodeOf digitLineOf l long (line-long (barcodeOf l) long) (line-there-and-back l e) e

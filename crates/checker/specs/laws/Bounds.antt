@@ -11,13 +11,13 @@ use Rattle.answer.specs.Sums.{capped}
 use Rattle.answer.specs.laws.Sums.{fits}
 use Rattle.digits.specs.laws.Numerals.{value-lt}
 use Rattle.layout.specs.Field.{Field, part}
-use Rattle.layout.specs.Records.{shapeOf, amountField, creditAmount, boletoAmount}
+use Rattle.layout.specs.Records.{shapeOf, amountField, creditAmount, boletoAmount, collectionAmount}
 use Rattle.layout.specs.laws.Bytes.{and-left, and-right}
 use Rattle.layout.specs.declared.Record.{Record}
 use Rattle.layout.specs.declared.shapes.LineType.{LineType}
 use Rattle.layout.specs.declared.shapes.LineType.the-variants.{FileFirst, BatchFirst, Detail, BatchLast, FileLast}
 use Rattle.layout.specs.declared.shapes.Amount.{Amount}
-use Rattle.layout.specs.declared.shapes.Amount.the-variants.{NoAmount, AmountOfA, AmountOfJ}
+use Rattle.layout.specs.declared.shapes.Amount.the-variants.{NoAmount, AmountOfA, AmountOfJ, AmountOfO}
 use Rattle.checker.specs.Totals.{add, opens, centsIn, counts, paymentsOf, amountDigits, batchCount, centSum, paymentCount, recordCount}
 use Rattle.checker.specs.Machine.{sound}
 use Rattle.checker.specs.inner.Steps.{Bounded, Room}
@@ -100,6 +100,7 @@ one-amount : (a : Amount) (rec : List ℕ) → OneAmount (amountField a) rec
 one-amount NoAmount rec = omega arith
 one-amount AmountOfA rec = omega (arith, value-lt amountDigits (part creditAmount rec) (rw length-take (omega arith)))
 one-amount AmountOfJ rec = omega (arith, value-lt amountDigits (part boletoAmount rec) (rw length-take (omega arith)))
+one-amount AmountOfO rec = omega (arith, value-lt amountDigits (part collectionAmount rec) (rw length-take (omega arith)))
 
 pub small : (r : Record) (rec : List ℕ) → Small r rec
 small r rec =

@@ -9,8 +9,8 @@ use Rattle.layout.specs.Field.{Field}
 use Rattle.layout.specs.Table.{fieldsOf}
 use Rattle.layout.specs.laws.Ids.{idsOf}
 use Rattle.layout.specs.declared.Record.{Record}
-use Rattle.layout.specs.declared.Record.the-variants.{FileHeader, BatchHeader, SegmentA, SegmentB, SegmentJ, SegmentJ52, SegmentZ, BatchTrailer, FileTrailer}
-use Rattle.checker.specs.Line.{idRule, houseRules, boletoRules}
+use Rattle.layout.specs.declared.Record.the-variants.{FileHeader, BatchHeader, SegmentA, SegmentB, SegmentJ, SegmentJ52, SegmentZ, BatchTrailer, FileTrailer, SegmentO}
+use Rattle.checker.specs.Line.{idRule, houseRules, boletoRules, collectionRules}
 use Rattle.checker.specs.laws.Listed.{idRefusal}
 
 -- those of the rules that have this number
@@ -19,7 +19,7 @@ ofNumber n [] = []
 ofNumber n (r ∷ rs) = cond (eqb (r .refused .number) n) (r ∷ ofNumber n rs) (ofNumber n rs)
 
 pub all-asked : (r : Record) (rec : List ℕ) → ofNumber idRefusal (houseRules r rec) ≡ map (λ (f : Field). idRule f rec) (idsOf r)
-unfolding fieldsOf boletoRules
+unfolding fieldsOf boletoRules collectionRules
 all-asked FileHeader rec = refl
 all-asked BatchHeader rec = refl
 all-asked SegmentA rec = refl
@@ -29,3 +29,4 @@ all-asked SegmentJ52 rec = refl
 all-asked SegmentZ rec = refl
 all-asked BatchTrailer rec = refl
 all-asked FileTrailer rec = refl
+all-asked SegmentO rec = refl

@@ -1,17 +1,18 @@
--- Every rule of a line names one of the paper's numbers, 1 to 23 or 26, and no line; of one record alone 1 to 15. Assumes nothing.
+-- Every rule of a line names one of the paper's numbers, 1 to 23, 26, 52, 53 or 55, and no line; of one record alone 1 to 15. Assumes nothing.
 use mathlib.Core.Path.{_≡_, refl, subst}
 use mathlib.Core.Bool.{Bool, _&&_, _||_}
 use mathlib.Core.List.{List, [], _∷_, _++_}
 use Prim.Native.Nat.{ℕ, _≤_}
 use native.Mathlib.Omega.{arith}
 use borrow.Author.Tests.{le-leb}
-use lib.Dec.{T, leb, eqb, leb→le}
+use lib.Dec.{T, leb, leb→le}
 use Rattle.answer.specs.Rules.{Rule, rule, noLine, Broken, firstBroken}
 use Rattle.answer.specs.laws.Order.{refused-broken}
 use Rattle.answer.specs.declared.Refusal.{Refusal}
 use Rattle.answer.specs.declared.Answer.the-variants.{Refused}
 use Rattle.digits.specs.laws.Tests.{both}
-use Rattle.layout.specs.Field.{Kind, N, NOrBlank, Id, T as Text, F, D, Time, K, O, Zeros, Exact, OneOf, Service, Form, Barcode, RecordType, Segment, Field}
+use Rattle.layout.specs.Pairs.{among as oneAmong}
+use Rattle.layout.specs.Field.{Kind, N, NOrBlank, Id, T as Text, F, D, Time, K, O, Zeros, Exact, OneOf, Service, Form, Barcode, Code, RecordType, Segment, Field}
 use Rattle.layout.specs.Records.{shapeOf}
 use Rattle.layout.specs.Table.{marks, fieldsOf, segmentFields, segmentPlace, typePlace, batchRecords, fileBatches, fileRecords}
 use Rattle.layout.specs.Kinds.{Part, means, blankIn}
@@ -22,13 +23,13 @@ use Rattle.layout.specs.declared.Record.{Record}
 use Rattle.layout.specs.declared.shapes.LineType.{LineType}
 use Rattle.layout.specs.declared.shapes.LineType.the-variants.{FileFirst, BatchFirst, Detail, BatchLast, FileLast}
 use Rattle.layout.specs.declared.shapes.House.{House}
-use Rattle.layout.specs.declared.shapes.House.the-variants.{NoRules, RulesOfJ, OneId, ThreeIds}
-use Rattle.checker.specs.Line.{behind, between, houseBy, boletoRules, rulesOfType, rulesAs, readingRules, lineIs, typeRules, lineRules, rulesOfLine, recordIn}
+use Rattle.layout.specs.declared.shapes.House.the-variants.{NoRules, RulesOfJ, OneId, ThreeIds, RulesOfO}
+use Rattle.checker.specs.Line.{behind, between, houseBy, boletoRules, collectionRules, rulesOfType, rulesAs, readingRules, lineIs, typeRules, lineRules, rulesOfLine, recordIn}
 use Rattle.checker.specs.declared.order.Reading.{Reading}
 use Rattle.checker.specs.declared.order.Reading.the-variants.{Line, Nothing}
 use Rattle.checker.specs.declared.Checker.{Checker}
 
--- the lowest and the highest number that a line is refused with, but for that of registration numbers
+-- the lowest and the highest number that a line is refused with, but for those that came behind document 01
 abbrev pub firstNumber : ℕ
 firstNumber = 1
 
@@ -38,8 +39,12 @@ lastNumber = 23
 abbrev pub idRefusal : ℕ
 idRefusal = 26
 
+-- a registration number; a collection code's product, its identifier and its general check
+abbrev pub laterNumbers : List ℕ
+laterNumbers = idRefusal ∷ 52 ∷ 53 ∷ 55 ∷ []
+
 abbrev pub numbered : ℕ → Bool
-numbered n = leb n lastNumber || eqb n idRefusal
+numbered n = leb n lastNumber || oneAmong n laterNumbers
 
 -- the highest that a field is refused with
 abbrev pub lastOfFields : ℕ
@@ -105,6 +110,7 @@ kind (OneOf domain) p = one tt
 kind Service p = one tt
 kind Form p = none
 kind Barcode p = more tt (one tt)
+kind Code p = one tt
 kind (RecordType b) p = one tt
 kind (Segment b) p = one tt
 
@@ -117,11 +123,12 @@ fields : (fs : List Field) (d : Direction) (rec : List ℕ) → Listed byteNumbe
 fields fs d rec = wider of-line (among-fields fs d rec)
 
 house : (h : House) (rec : List ℕ) → Listed byteNumber numbered (houseBy h rec)
-unfolding boletoRules
+unfolding boletoRules collectionRules
 house NoRules rec = none
 house RulesOfJ rec = more tt (more tt (more tt (one tt)))
 house OneId rec = one tt
 house ThreeIds rec = more tt (more tt (one tt))
+house RulesOfO rec = more tt (more tt (one tt))
 
 of-type : (t : LineType) (r : Record) (s : Checker) (rec : List ℕ) → Listed byteNumber numbered (rulesOfType t r s rec)
 unfolding rulesOfType
@@ -186,7 +193,7 @@ inside (x ∷ xs) r ys a = inside xs r ys (without-front a)
 pub broken-listed : {low : ℕ} {among : ℕ → Bool} {rs : List Rule} {r : Refusal} → Listed low among rs → Broken rs r → InTable low among r
 broken-listed {low} {among} a b = inside (b .earlier) _ (b .later) (subst (Listed low among) (b .are) a)
 
--- one record alone is refused with 1 to 15, and so never with 26
+-- one record alone is refused with 1 to 15, and so never with a house rule's number
 pub alone-number : (r : Record) (d : Direction) (rec : List ℕ) (x : Refusal) → firstBroken (recordRules r d rec) ≡ Refused x
     → (firstNumber ≤ x .number) × (x .number ≤ lastOfFields)
 alone-number r d rec x e =

@@ -5,6 +5,7 @@ use mathlib.Core.List.{List, [], _∷_, _++_}
 use Prim.Native.Nat.{ℕ, zero, suc, _+_, _<_, _≤_}
 use native.Mathlib.Numerals.{add-one}
 use native.Mathlib.Omega.{arith}
+use borrow.Author.Tests.{ltb-true}
 use lib.Dec.{ltb, eqb}
 use lib.ListN.{length, take, drop, length-drop}
 use lib.Seq.{take-add}
@@ -14,7 +15,7 @@ use Rattle.layout.specs.Records.{typeOf, letterZ}
 use Rattle.layout.specs.Table.{segmentField, segmentFields}
 use Rattle.layout.specs.declared.Record.{Record}
 use Rattle.layout.specs.declared.pairs.Batch.{Batch}
-use Rattle.layout.specs.declared.pairs.Batch.the-variants.{Credit, Boleto, Unknown}
+use Rattle.layout.specs.declared.pairs.Batch.the-variants.{Credit, Boleto, Unknown, Collection}
 use Rattle.checker.specs.Order.{payment, recordAt, optional}
 use Rattle.layout.specs.Records.{after}
 use Rattle.checker.specs.Totals.{paymentsOf}
@@ -61,18 +62,24 @@ rows : (b : Batch) → EachAt (Row b) (payment b)
 rows Credit = (fits refl refl refl refl refl refl, (fits refl refl refl refl refl refl, tt))
 rows Boleto = (fits refl refl refl refl refl refl, (fits refl refl refl refl refl refl, tt))
 rows Unknown = tt
+rows Collection = (fits refl refl refl refl refl refl, tt)
 
 -- with a Z a payment has no more records than it may have
 pub brief : (b : Batch) → length (payment b) + 1 ≤ mostDetails
 brief Credit = omega arith
 brief Boleto = omega arith
 brief Unknown = omega arith
+brief Collection = omega arith
 
--- a kind of batch that is known has a payment
+-- a kind of batch that is known has a payment, and no other has
+pub known-paid : (b : Batch) → known b ≡ ltb 0 (length (payment b))
+known-paid Credit = refl
+known-paid Boleto = refl
+known-paid Unknown = refl
+known-paid Collection = refl
+
 pub some-paid : (b : Batch) → known b ≡ true → 1 ≤ length (payment b)
-some-paid Credit e = omega arith
-some-paid Boleto e = omega arith
-some-paid Unknown e = absurd (let z : _≡_ {A = ℕ} 0 1 = cc in omega arith)
+some-paid b e = ltb-true 0 (length (payment b)) (sym (known-paid b) ∙ e)
 
 -- ---- carried
 

@@ -37,7 +37,7 @@ module _ {s : Checker} (c : Reached s) where
   pub never-guarded : (line : List ℕ) → stepOf s line ≡ answerTo (firstBroken (rulesOfLine s line)) s (recordIn line)
   never-guarded line = by-rules s line (reached c)
 
-  -- and so a refusal's number is one of the table, 1 to 23 or 26
+  -- and so a refusal's number is one of the table: 1 to 23, 26, 52, 53 or 55
   pub line-number : (line : List ℕ) (r : Refusal) → stepOf s line .answer ≡ Refused r → (1 ≤ r .number) × T (numbered (r .number))
   line-number line r e =
       let t = broken-listed (line-listed s line) (line-refused s line (reached c) r .0 e .broken) in

@@ -7,14 +7,14 @@ use native.Mathlib.Omega.{arith}
 use lib.ListN.{length}
 use Rattle.layout.specs.declared.Record.{Record}
 use Rattle.layout.specs.declared.shapes.Amount.{Amount}
-use Rattle.layout.specs.declared.shapes.Amount.the-variants.{NoAmount, AmountOfA, AmountOfJ}
+use Rattle.layout.specs.declared.shapes.Amount.the-variants.{NoAmount, AmountOfA, AmountOfJ, AmountOfO}
 use Rattle.layout.specs.declared.shapes.LineType.{LineType}
 use Rattle.layout.specs.declared.shapes.LineType.the-variants.{FileFirst, BatchFirst, Detail, BatchLast, FileLast}
 use Rattle.checker.specs.Totals.{tally, live, withdrawn, totals, none, add, livePayments, liveCents, withdrawnPayments, withdrawnCents, paymentCount, centSum, centsIn, withdraws, only, tallied, counts, paymentsOf, centsOf}
 use Rattle.checker.specs.Machine.{nextOfType, next}
 use Rattle.digits.specs.Numbers.{value}
 use Rattle.layout.specs.Field.{part}
-use Rattle.layout.specs.Records.{shapeOf, creditAmount, boletoAmount, amountField}
+use Rattle.layout.specs.Records.{shapeOf, creditAmount, boletoAmount, collectionAmount, amountField}
 use Rattle.checker.specs.declared.totals.Tally.{Tally}
 use Rattle.checker.specs.declared.totals.Totals.{Totals}
 use Rattle.checker.specs.declared.Checker.{Checker}
@@ -65,18 +65,21 @@ together r rec = let p = go (shapeOf r .amount) (withdraws rec) in record { paym
     go NoAmount w = (refl, refl)
     go AmountOfA w = both-parts w (tally 1 (value (part creditAmount rec)))
     go AmountOfJ w = both-parts w (tally 1 (value (part boletoAmount rec)))
+    go AmountOfO w = both-parts w (tally 1 (value (part collectionAmount rec)))
 
 -- the payment that is begun, whatever its movement; and it, or none
 pub all-tallied : (a : Amount) (rec : List ℕ) → tallied true (amountField a) rec ≡ tally (length (amountField a)) (centsIn (amountField a) rec)
 all-tallied NoAmount rec = refl
 all-tallied AmountOfA rec = refl
 all-tallied AmountOfJ rec = refl
+all-tallied AmountOfO rec = refl
 
 pub only-tallied : (such : Bool) (a : Amount) (rec : List ℕ) → only such (tallied true (amountField a) rec) ≡ tallied such (amountField a) rec
 only-tallied true NoAmount rec = refl
 only-tallied false NoAmount rec = refl
 only-tallied such AmountOfA rec = refl
 only-tallied such AmountOfJ rec = refl
+only-tallied such AmountOfO rec = refl
 
 -- what a state counts in all
 abbrev pub counted : Checker → Totals

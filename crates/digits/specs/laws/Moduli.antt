@@ -1,12 +1,12 @@
 -- What the moduli tell apart: facts of finitely many numbers, each one test that antt computes. Assumes nothing.
 use mathlib.Core.Path.{_≡_, refl, sym, ap, _∙_, subst}
-use mathlib.Core.Logic.{_≢_}
-use mathlib.Core.Bool.{Bool, false, not, _||_}
+use mathlib.Core.Logic.{_≢_, _⊎_, inl, inr}
+use mathlib.Core.Bool.{Bool, true, false, not, _&&_, _||_}
 use mathlib.Core.List.{List, [], _∷_, _++_}
 use Prim.Native.Nat.{ℕ, suc, _+_, _*_, _/_, _%_, _<_, _≤_}
-use native.Mathlib.Nat.{mod-lt, mod-mod, suc-mod, add-mod, add-mul, mul-comm, mul-right-comm, div-add-mod', mul-add-mod-self-right}
+use native.Mathlib.Nat.{mod-lt, mod-mod, suc-mod, add-mod, add-mul, mul-comm, mul-right-comm, mul-add, mul-left-comm, div-add-mod', mul-add-mod-self-right}
 use native.Mathlib.Omega.{arith}
-use lib.Dec.{T, eqb, leb, eqb→eq, leb→le, not-T, T-not, lit<}
+use lib.Dec.{T, eqb, leb, eqb→eq, leb→le, le→leb, not-T, T-not, lit<}
 use borrow.Author.Tests.{eq-eqb}
 use lib.ListN.{length}
 use Rattle.digits.specs.Digits.{digitOf, weighed}
@@ -61,6 +61,59 @@ eleven-tells w d e nz q =
     let some : T (not (eqb r 0)) = not-T (eqb r 0) (λ t. nz (eqb→eq r 0 t)) in
     let here = or-left (eqb r 0) _ some (every-at 11 _ eleven-test r (mod-lt w (lit< tt))) in
     apart-at (d % 11) (e % 11) _ _ (every-at 11 _ (every-at 11 _ here (d % 11) (mod-lt d (lit< tt))) (e % 11) (mod-lt e (lit< tt))) (sym (product-mod w d) ∙ q ∙ product-mod w e)
+
+-- a value d that becomes e, weighed w, moves a sum by 1 at most modulo 11, up or down
+abbrev pub Near : ℕ → ℕ → ℕ → Type 0
+Near w d e = (w * (e + 10 * d) + 1) % 11 ≤ 2
+
+-- two sums that differ by that, and of which the remainders are equal or both at most 1
+pub near-moved : (w d e a b : ℕ) → a + w * e ≡ b + w * d → (a % 11 ≡ b % 11) ⊎ ((a % 11 ≤ 1) × (b % 11 ≤ 1)) → Near w d e
+near-moved w d e a b q r =
+    let times : w * (e + 10 * d) ≡ w * e + 10 * (w * d) = mul-add w e (10 * d) ∙ ap (λ (n : ℕ). w * e + n) (mul-left-comm w 10 d) in
+    rw times (go r)
+  where
+    go : (a % 11 ≡ b % 11) ⊎ ((a % 11 ≤ 1) × (b % 11 ≤ 1)) → (w * e + 10 * (w * d) + 1) % 11 ≤ 2
+    go (inl r) = omega arith
+    go (inr r) = omega arith
+
+-- a weight by itself, or two together: multiples of 11, equal or opposite
+abbrev alike? : ℕ → ℕ → Bool
+alike? r s = eqb r 0 || eqb s 0 || eqb r s || eqb ((r + s) % 11) 0
+
+-- a difference of x, weighed r
+abbrev near? : ℕ → ℕ → Bool
+near? r x = leb ((r * x + 1) % 11) 2
+
+near-test : T (every 11 (λ r. every 11 (λ s. alike? r s || every 11 (λ x. eqb x 0 || not (near? r x && near? s x)))))
+unfolding every
+near-test = tt
+
+-- two weights that are not, and a digit that moves neither sum by more than 1, stays
+pub near-tells : (w u d e : ℕ) → w % 11 ≢ 0 → u % 11 ≢ 0 → w % 11 ≢ u % 11 → (w + u) % 11 ≢ 0 → d ≤ 9 → e ≤ 9 → Near w d e → Near u d e → d ≡ e
+near-tells w u d e nw nu ne op hd he a b =
+    let r = w % 11 in
+    let s = u % 11 in
+    let x = (e + 10 * d) % 11 in
+    let opposite : (r + s) % 11 ≢ 0 = λ q. op (omega arith) in
+    let apart-from : T (not (alike? r s)) = none (eqb r 0) (eqb s 0) (eqb r s) (eqb ((r + s) % 11) 0) (λ t. nw (eqb→eq r 0 t)) (λ t. nu (eqb→eq s 0 t)) (λ t. ne (eqb→eq r s t)) (λ t. opposite (eqb→eq _ 0 t)) in
+    let here = or-left (alike? r s) _ apart-from (every-at 11 _ (every-at 11 _ near-test r (mod-lt w (lit< tt))) s (mod-lt u (lit< tt))) in
+    let a′ : T (near? r x) = le→leb ((r * x + 1) % 11) 2 (omega (arith, product-mod w (e + 10 * d))) in
+    let b′ : T (near? s x) = le→leb ((s * x + 1) % 11) 2 (omega (arith, product-mod u (e + 10 * d))) in
+    let z : x ≡ 0 = eqb→eq x 0 (stays-zero (eqb x 0) (near? r x) (near? s x) (every-at 11 _ here x (mod-lt (e + 10 * d) (lit< tt))) a′ b′) in
+    omega arith
+  where
+    none : (a b c d : Bool) → (T a → ⊥) → (T b → ⊥) → (T c → ⊥) → (T d → ⊥) → T (not (a || b || c || d))
+    none true b c d f g h k = absurd (f tt)
+    none false true c d f g h k = absurd (g tt)
+    none false false true d f g h k = absurd (h tt)
+    none false false false true f g h k = absurd (k tt)
+    none false false false false f g h k = tt
+
+    stays-zero : (z a b : Bool) → T (z || not (a && b)) → T a → T b → T z
+    stays-zero true a b t p q = tt
+    stays-zero false true true t p q = t
+    stays-zero false true false t p q = q
+    stays-zero false false b t p q = p
 
 -- weights of which none is a multiple of 11 tell digits apart
 pub weights-tell : (w : ℕ → ℕ) → ((k : ℕ) → w k % 11 ≢ 0) → TellsDigits 11 (λ k d. w k * d)
@@ -117,6 +170,10 @@ ten-tells-digits = record { tells = ten-tells }
 pub eleven-tells-digits : TellsDigits 11 (counts Eleven)
 unfolding counts
 eleven-tells-digits = weights-tell (weight Eleven) (λ k. omega arith)
+
+pub plain-tells-digits : TellsDigits 11 (counts PlainEleven)
+unfolding counts
+plain-tells-digits = weights-tell (weight PlainEleven) (λ k. omega arith)
 
 differ-test : T (every 8 (λ k. not (eqb (weight Eleven (suc k) % 11) (weight Eleven k % 11))))
 unfolding every

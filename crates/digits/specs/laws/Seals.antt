@@ -2,21 +2,22 @@
 -- Over any length, any place of the check digit and every modulus. Assumes nothing.
 use mathlib.Core.Path.{_≡_, refl, sym, ap, _∙_, subst}
 use mathlib.Core.Logic.{_≢_, _⊎_, inl, inr}
-use mathlib.Core.Bool.{not}
+use mathlib.Core.Bool.{not, cond}
 use mathlib.Core.List.{List, [], _∷_, _++_, append-assoc}
 use Prim.Native.Nat.{ℕ, zero, suc, _+_, _-_, _%_, _<_, _≤_}
 use native.Mathlib.Nat.{le-of-suc-le-suc, not-suc-le-zero, mod-lt, sub-zero, suc-sub-suc}
 use native.Mathlib.Decide.{ℕ-discrete, decLt}
 use native.Mathlib.Omega.{arith}
-use lib.ListN.{length, getD, take, drop, set, length-append}
-use lib.Seq.{length-take-le, split-at, set-split, getD-set-same, take-set-le, drop-set-lt}
-use lib.Dec.{T}
+use lib.ListN.{length, getD, take, drop, set, length-append, length-take, length-drop}
+use lib.Seq.{length-take-le, split-at, set-split, set-getD, getD-set-same, take-set-le, take-set-lt, drop-set-lt, drop-set-add, set-append-left}
+use lib.Dec.{T, ltb}
+use borrow.Author.Tests.{lt-ltb, le-ltb}
 use Rattle.digits.specs.Digits.{digitOf, digitByte, weighed}
 use Rattle.digits.specs.inner.Steps.{behind}
 use Rattle.digits.specs.Checks.{base, valueOf, counts, checkDigit}
 use Rattle.digits.specs.declared.sealing.Modulus.{Modulus}
 use Rattle.digits.specs.declared.sealing.Modulus.the-variants.{Eleven}
-use Rattle.digits.specs.laws.Strings.{Digit, digit-small, same-digit}
+use Rattle.digits.specs.laws.Strings.{Digit, digit-small, same-digit, set-append-right}
 use Rattle.digits.specs.laws.Sums.{replaced, one, two}
 use Rattle.digits.specs.laws.Moduli.{TellsDigits, base-pos, value-digit, eleven-tells-neighbours, firm, blind, lift-small}
 
@@ -44,6 +45,49 @@ out-right (x ∷ xs) ys zero h = absurd (not-suc-le-zero h)
 out-right (x ∷ xs) ys (suc p) h =
     let r = out-right xs ys p (le-of-suc-le-suc h) in
     rw suc-sub-suc (ap (λ (l : List ℕ). x ∷ l) (r .0), r .1)
+
+-- where the byte at index i stands among the others
+abbrev pub among : ℕ → ℕ → ℕ
+among p i = cond (ltb p i) (i - 1) i
+
+pub among-before : (p i : ℕ) → i ≤ p → among p i ≡ i
+among-before p i l = rw (le-ltb p i l)
+
+pub among-behind : (p i : ℕ) → p < i → among p i ≡ i - 1
+among-behind p i l = rw (lt-ltb p i l)
+
+pub out-long : (p : ℕ) (bs : List ℕ) → p < length bs → length (out p bs) ≡ length bs - 1
+out-long p bs h = simp (length-append, length-take, length-drop) (omega arith)
+
+-- a byte stored beside the check digit
+module _ (p : ℕ) (bs : List ℕ) (i v : ℕ) (h : p < length bs) (ne : i ≢ p) where
+  pub out-set : out p (set bs i v) ≡ set (out p bs) (among p i) v
+  out-set = go (decLt p i)
+    where
+      len : length (take p bs) ≡ p
+      len = length-take-le p bs (omega arith)
+
+      go : Dec (p < i) → out p (set bs i v) ≡ set (out p bs) (among p i) v
+      go (yes l) =
+          let e : i ≡ suc p + (i - 1 - p) = omega arith in
+          let back : i - 1 - length (take p bs) ≡ i - 1 - p = omega (arith, len) in
+          rw (among-behind p i l, take-set-le p bs i v (omega arith), set-append-right (take p bs) (drop (suc p) bs) (i - 1) v (omega (arith, len)), back)
+          (ap (λ (k : ℕ). take p bs ++ drop (suc p) (set bs k v)) e ∙ rw (drop-set-add (suc p) bs (i - 1 - p) v))
+      go (no l) =
+          rw (among-before p i (omega arith), take-set-lt p bs i v (omega arith), drop-set-lt (suc p) bs i v (omega arith), set-append-left (take p bs) (drop (suc p) bs) i v (omega (arith, len)))
+
+pub among-lt : (p i n : ℕ) → i ≢ p → p < n → i < n → among p i < n - 1
+among-lt p i n ne hp hi = go (decLt p i)
+  where
+    go : Dec (p < i) → among p i < n - 1
+    go (yes l) = rw (among-behind p i l) (omega arith)
+    go (no l) = rw (among-before p i (omega arith)) (omega arith)
+
+pub out-getD : (p : ℕ) (bs : List ℕ) (i : ℕ) → p < length bs → i ≢ p → i < length bs → getD (out p bs) (among p i) 0 ≡ getD bs i 0
+out-getD p bs i h ne hi =
+    let b = getD bs i 0 in
+    ap (λ (l : List ℕ). getD l (among p i) 0) (ap (λ (l : List ℕ). out p l) (sym (set-getD bs i 0)) ∙ out-set p bs i b h ne)
+    ∙ getD-set-same (out p bs) (among p i) b 0 (rw (out-long p bs h) (among-lt p i (length bs) ne h hi))
 
 module _ (m : Modulus) (ys ys′ : List ℕ) (e : length ys ≡ length ys′) where
   -- one check digit of two strings that differ in a part: the parts count the same

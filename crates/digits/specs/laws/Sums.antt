@@ -1,11 +1,11 @@
 -- Weighted sums of strings, over any values of the bytes, any weights, any modulus and any length. Assumes nothing.
 use mathlib.Core.Path.{_≡_, sym, ap, _∙_}
 use mathlib.Core.List.{List, [], _∷_, _++_}
-use Prim.Native.Nat.{ℕ, suc, _+_, _-_, _/_, _%_, _<_, _≤_}
-use native.Mathlib.Nat.{zero-add, add-zero, add-comm, add-mod, div-add-mod', mul-add-mod-self-right}
+use Prim.Native.Nat.{ℕ, zero, suc, _+_, _-_, _/_, _%_, _<_, _≤_}
+use native.Mathlib.Nat.{zero-add, add-zero, add-comm, add-mod, div-add-mod', mul-add-mod-self-right, sub-zero, suc-sub-suc, le-of-suc-le-suc, not-suc-le-zero}
 use native.Mathlib.Numerals.{one-add}
 use native.Mathlib.Omega.{arith}
-use lib.ListN.{length, length-append, getD, drop, length-drop}
+use lib.ListN.{length, length-append, getD, drop, length-drop, set, length-set}
 use lib.Seq.{drop-cons}
 use Rattle.digits.specs.Digits.{weighed}
 use Rattle.digits.specs.inner.Steps.{behind}
@@ -59,3 +59,11 @@ one v f n b = simp (zero-add, add-zero)
 pub two : (v : ℕ → ℕ) (f : ℕ → ℕ → ℕ) (n a b : ℕ) → weighed v (behind n f) (a ∷ b ∷ []) ≡ f (suc n) (v a) + f n (v b)
 unfolding weighed
 two v f n a b = simp (zero-add, add-zero, one-add)
+
+-- one byte stored: its count and that of the byte that stood there, exchanged
+pub weighed-set : (v : ℕ → ℕ) (f : ℕ → ℕ → ℕ) (bs : List ℕ) (i b : ℕ) → i < length bs →
+    weighed v f bs + f (length bs - suc i) (v b) ≡ weighed v f (set bs i b) + f (length bs - suc i) (v (getD bs i 0))
+unfolding weighed
+weighed-set v f [] i b h = absurd (not-suc-le-zero h)
+weighed-set v f (x ∷ xs) zero b h = rw (suc-sub-suc, sub-zero) (omega arith)
+weighed-set v f (x ∷ xs) (suc i) b h = rw (suc-sub-suc, length-set xs i b) (omega (arith, weighed-set v f xs i b (le-of-suc-le-suc h)))

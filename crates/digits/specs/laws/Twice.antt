@@ -1,77 +1,23 @@
 -- Strings that end in two check digits, and one byte of them changed. Over any length. Assumes nothing.
-use mathlib.Core.Path.{_≡_, refl, sym, ap, _∙_}
+use mathlib.Core.Path.{_≡_, sym, ap, _∙_}
 use mathlib.Core.Logic.{_≢_, _↔_}
 use mathlib.Core.Bool.{Bool, true, _&&_, and-eq-true-iff}
-use mathlib.Core.List.{List, [], _∷_}
-use Prim.Native.Nat.{ℕ, suc, _+_, _-_, _*_, _%_, _<_, _≤_}
-use native.Mathlib.Nat.{mod-lt}
-use native.Mathlib.Decide.{ℕ-discrete, decLt}
+use mathlib.Core.List.{List}
+use Prim.Native.Nat.{ℕ, suc, _+_, _-_, _%_, _<_, _≤_}
+use native.Mathlib.Decide.{ℕ-discrete}
 use native.Mathlib.Omega.{arith}
 use lib.Dec.{eqb}
-use lib.ListN.{length, getD, take, drop, set, length-set, length-drop}
-use lib.Seq.{length-take-le, take-take, getD-take, split-at, set-split, getD-set-same, getD-set-other, take-set-le, take-set-lt}
-use borrow.Author.Tests.{eqb-true, eq-eqb, lt-ltb, le-ltb}
+use lib.ListN.{length, getD, take, set, length-set}
+use lib.Seq.{length-take-le, take-take, getD-take, getD-set-same, getD-set-other, take-set-le, take-set-lt}
+use borrow.Author.Tests.{eqb-true, eq-eqb}
 use Rattle.digits.specs.Digits.{digitByte}
-use Rattle.digits.specs.Checks.{base, valueOf, weight, counts, plainLift, lift, remainder, checkDigit, endsRightTwice}
+use Rattle.digits.specs.Checks.{valueOf, weight, remainder, checkDigit, endsRightTwice}
 use Rattle.digits.specs.declared.sealing.Modulus.{Modulus}
-use Rattle.digits.specs.declared.sealing.Modulus.the-variants.{PlainEleven, LongEleven}
-use Rattle.digits.specs.laws.Sums.{replaced, one}
-use Rattle.digits.specs.laws.Moduli.{base-pos, eleven-tells}
+use Rattle.digits.specs.laws.Plain.{Stays, same, low, LiftsPlainly, stays-exactly, zero-for-low, byte-told}
 
--- a remainder stays, or passes between 0 and 1: those two have one check digit
-pub data Stays (r s : ℕ) : Type 0 where
-  same : r ≡ s → Stays r s
-  low : r ≤ 1 → s ≤ 1 → Stays r s
-
--- both remainders of a string do when it becomes another: of its first n bytes, and of its first n + 1
+-- both remainders of a string stay, or pass between 0 and 1, when it becomes another: of its first n bytes, and of its first n + 1
 abbrev pub BothStay : Modulus → ℕ → List ℕ → List ℕ → Type 0
 BothStay m n bs bs′ = Stays (remainder m (take n bs)) (remainder m (take n bs′)) × Stays (remainder m (take (n + 1) bs)) (remainder m (take (n + 1) bs′))
-
--- a modulus 11 over products, whose check digit is 0 for remainder 0 or 1: those of a CNPJ and a CPF
-pub record LiftsPlainly (m : Modulus) : Type 0 where
-  pub eleven : base m ≡ 11
-  pub lifts : (r : ℕ) → lift m r ≡ plainLift r
-  pub products : (k d : ℕ) → counts m k d ≡ weight m k * d
-
-pub plain-eleven : LiftsPlainly PlainEleven
-unfolding lift counts
-plain-eleven = record { eleven = refl; lifts = λ r. refl; products = λ k d. refl }
-
-pub long-eleven : LiftsPlainly LongEleven
-unfolding lift counts
-long-eleven = record { eleven = refl; lifts = λ r. refl; products = λ k d. refl }
-
--- ---- the plain check digit
-
-lift-low : (r : ℕ) → r ≤ 1 → plainLift r ≡ 0
-lift-low r h = rw (lt-ltb r 2 (omega arith))
-
-lift-high : (r : ℕ) → 1 < r → plainLift r ≡ 11 - r
-lift-high r h = rw (le-ltb r 2 (omega arith))
-
-stays : (r s : ℕ) → r < 11 → s < 11 → plainLift r ≡ plainLift s → Stays r s
-stays r s hr hs e = go (decLt 1 r) (decLt 1 s)
-  where
-    go : Dec (1 < r) → Dec (1 < s) → Stays r s
-    go (yes p) (yes q) = same (omega (arith, lift-high r p, lift-high s q))
-    go (yes p) (no q) = absurd (omega (arith, lift-high r p, lift-low s (omega arith)))
-    go (no p) (yes q) = absurd (omega (arith, lift-low r (omega arith), lift-high s q))
-    go (no p) (no q) = low (omega arith) (omega arith)
-
-stayed : (r s : ℕ) → Stays r s → plainLift r ≡ plainLift s
-stayed r s (same e) = ap plainLift e
-stayed r s (low p q) = lift-low r p ∙ sym (lift-low s q)
-
-small : {m : Modulus} → LiftsPlainly m → (bs : List ℕ) → remainder m bs < 11
-small {m} p bs = rw (← (p .eleven)) (mod-lt _ (base-pos m))
-
--- two strings that differ in one byte and leave one remainder: the byte's values do too, if its weight is no multiple of 11
-byte-told : (m : Modulus) → LiftsPlainly m → (bs : List ℕ) (i v : ℕ) → i < length bs → weight m (length bs - suc i) % 11 ≢ 0 → remainder m bs ≡ remainder m (set bs i v) →
-    valueOf m (getD bs i 0) % 11 ≡ valueOf m v % 11
-byte-told m p bs i v h w q =
-    let both-sums = ap (remainder m) (sym (split-at bs i 0 h)) ∙ q ∙ ap (remainder m) (set-split bs i v h) in
-    let parts = replaced (valueOf m) (counts m) (base m) (take i bs) (getD bs i 0 ∷ []) (v ∷ []) (drop (suc i) bs) refl both-sums in
-    eleven-tells (weight m (length bs - suc i)) (valueOf m (getD bs i 0)) (valueOf m v) w (simp (one, p .products, p .eleven, length-drop) at parts)
 
 -- ---- both check digits, by their places
 
@@ -118,14 +64,7 @@ module _ (m : Modulus) (bs : List ℕ) (n i v : ℕ) (h : length bs ≡ n + 2) (
   module _ (p : LiftsPlainly m) (l : i < n) where
     -- a check digit behind the byte is right again exactly if its remainder stays
     stays-at : (k : ℕ) → i < k → Checked m k bs → Checked m k (set bs i v) ↔ Stays (remainder m (take k bs)) (remainder m (take k (set bs i v)))
-    unfolding checkDigit
-    stays-at k l s =
-        let r = remainder m (take k bs) in
-        let r′ = remainder m (take k (set bs i v)) in
-        let kept = getD-set-other bs i k v 0 (λ q. omega arith) in (
-          λ s′. stays r r′ (small p (take k bs)) (small p (take k (set bs i v))) (omega (arith, p .lifts r, p .lifts r′)),
-          λ t. omega (arith, stayed r r′ t, p .lifts r, p .lifts r′),
-        )
+    stays-at k l s = rw (getD-set-other bs i k v 0 (λ q. omega arith)) (stays-exactly p (take k bs) (take k (set bs i v)) (getD bs k 0) s)
 
     -- a byte before the check digits: the string ends right again exactly if both remainders stay or pass between 0 and 1
     pub unseen-exactly : endsRightTwice m (set bs i v) ≡ true ↔ BothStay m n bs (set bs i v)
@@ -138,12 +77,11 @@ module _ (m : Modulus) (bs : List ℕ) (n i v : ℕ) (h : length bs ≡ n + 2) (
 
     -- where the first check digit isn't 0 and the byte's weight is no multiple of 11, a byte that counts otherwise modulo 11 is seen
     pub byte-seen : getD bs n 0 ≢ digitByte 0 → weight m (n - suc i) % 11 ≢ 0 → valueOf m v % 11 ≢ valueOf m (getD bs i 0) % 11 → endsRightTwice m (set bs i v) ≢ true
-    unfolding checkDigit
     byte-seen some w ne e′ = go (unseen-exactly .0 e′ .0)
       where
         go : Stays (remainder m (take n bs)) (remainder m (take n (set bs i v))) → ⊥
         go (same q) =
             let len = length-take-le n bs (omega arith) in
-            let told = byte-told m p (take n bs) i v (rw len l) (rw len w) (q ∙ ap (remainder m) (take-set-lt n bs i v l)) in
+            let told = byte-told p (take n bs) i v (rw len l) (rw len w) (q ∙ ap (remainder m) (take-set-lt n bs i v l)) in
             ne (sym (rw (getD-take n bs i 0 l) at told))
-        go (low t u) = some (omega (arith, ends m n bs h e .0, p .lifts (remainder m (take n bs)), lift-low _ t))
+        go (low t u) = some (ends m n bs h e .0 ∙ ap digitByte (zero-for-low p (take n bs) t))

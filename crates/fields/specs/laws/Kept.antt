@@ -20,7 +20,7 @@ use Rattle.digits.specs.declared.spelling.Number.{Number}
 use Rattle.digits.specs.declared.spelling.Number.the-variants.{Is, Not}
 use Rattle.calendar.specs.Calendar.{numberFits, dateFits, timeFits}
 use Rattle.layout.specs.Pairs.{Pairs, pairs, among, batchAmong, batchOf, known}
-use Rattle.layout.specs.Field.{Kind, N, NOrBlank, Id, T as Text, F, D, Time, K, O, Zeros, Exact, OneOf, Service, Form, Barcode, RecordType, Segment, Field, field, part, none}
+use Rattle.layout.specs.Field.{Kind, N, NOrBlank, Id, T as Text, F, D, Time, K, O, Zeros, Exact, OneOf, Service, Form, Barcode, Code, RecordType, Segment, Field, field, part, none}
 use Rattle.layout.specs.Table.{fieldsOf, recordBytes, serviceField, formField}
 use Rattle.layout.specs.Kinds.{Presence, perhaps, Held, aNumber, asNumberIfGiven, asBytes, asFixed, means, blank, run, isFixed, numberOrBlank, oneOf}
 use Rattle.layout.specs.Record.{fieldRules, rulesOf, firstRules, recordRules}
@@ -129,6 +129,7 @@ ruled (OneOf domain) f d rec l s o = a-number (λ e. some (one-some domain (part
 ruled Service f d rec l s o = a-number (λ e. some (rw (same-places serviceField f rec o) (service-some (pairs d) _ (numberOf (part formField rec)) e)))
 ruled Form f d rec l s o = a-number (λ e. some (rw (same-places formField f rec o) (form-some (pairs d) (numberOf (part serviceField rec)) _ e)))
 ruled Barcode f d rec l s o = any-bytes
+ruled Code f d rec l s o = any-bytes
 ruled (RecordType b) f d rec l s o = content-only
 ruled (Segment b) f d rec l s o = content-only
 

@@ -1,7 +1,7 @@
 -- How a number is refused that has more digits than its field. Assumes nothing.
 use mathlib.Core.Bool.{Bool, true, false, cond}
 use Prim.Native.Nat.{ℕ}
-use Rattle.layout.specs.Field.{Kind, N, NOrBlank, Id, T, F, D, Time, K, O, Zeros, Exact, OneOf, Service, Form, Barcode, RecordType, Segment, Field}
+use Rattle.layout.specs.Field.{Kind, N, NOrBlank, Id, T, F, D, Time, K, O, Zeros, Exact, OneOf, Service, Form, Barcode, Code, RecordType, Segment, Field}
 use Rattle.layout.specs.Table.{serviceField}
 
 -- the refusal's number, and whether the rule is the pair's, which the service carries
@@ -34,6 +34,7 @@ wide (OneOf domain) = ownRule 14
 wide Service = pairsRule
 wide Form = pairsRule
 wide Barcode = ownRule 0
+wide Code = ownRule 0
 wide (RecordType b) = ownRule 0
 wide (Segment b) = ownRule 0
 

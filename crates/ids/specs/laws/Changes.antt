@@ -14,7 +14,8 @@ use Rattle.digits.specs.Checks.{endsRightTwice}
 use Rattle.digits.specs.declared.sealing.Modulus.the-variants.{PlainEleven, LongEleven}
 use Rattle.digits.specs.laws.Tests.{not-so}
 use Rattle.digits.specs.laws.Strings.{Digit, Digits, digit-small, same-digit, digits-set, every-set, leading-all, all-leading}
-use Rattle.digits.specs.laws.Twice.{BothStay, plain-eleven, long-eleven, check-seen, unseen-exactly, byte-seen}
+use Rattle.digits.specs.laws.Plain.{plain-eleven, long-eleven}
+use Rattle.digits.specs.laws.Twice.{BothStay, check-seen, unseen-exactly, byte-seen}
 use Rattle.ids.specs.Ids.{isCpf, cpfDigits, isCnpj, hasCnpjCharacters, cnpjCharacters, cnpjLetters}
 
 -- ---- a CPF: eleven digits

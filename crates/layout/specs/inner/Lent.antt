@@ -8,7 +8,7 @@ use lib.ListN.{length, getD, take}
 use Rattle.digits.specs.Digits.{digitByte}
 use Rattle.digits.specs.laws.Strings.{tab}
 use Rattle.ids.specs.Ids.{cnpjCharacters}
-use Rattle.layout.specs.Field.{Kind, N, NOrBlank, Id, T, F, D, Time, K, O, Zeros, Exact, OneOf, Service, Form, Barcode, RecordType, Segment, Field}
+use Rattle.layout.specs.Field.{Kind, N, NOrBlank, Id, T, F, D, Time, K, O, Zeros, Exact, OneOf, Service, Form, Barcode, Code, RecordType, Segment, Field}
 use Rattle.layout.specs.Table.{fieldsOf, zeroOneTwo, zeroNine, oneTwo, exactC, exact09, exact52, fieldsOfEach, all}
 use Rattle.layout.specs.Records.{code, records}
 use Rattle.layout.specs.Kinds.{Held, aNumber, asBytes, asFixed, means, blank}
@@ -30,7 +30,7 @@ unfoldable pub spanOf : Record → Span
 spanOf r = record { first = startOf r; past = startOf r + length (fieldsOf r) }
 
 abbrev pub fieldCount : ℕ
-fieldCount = 143
+fieldCount = 159
 
 -- what stands at f in a column, and in three; past their end 0
 abbrev pub inColumn : List ℕ → ℕ → ℕ
@@ -42,7 +42,7 @@ entryIn from to kind f = record { from = inColumn from f; to = inColumn to f; ki
 -- ---- kinds by number
 
 abbrev pub kinds : List Kind
-kinds = N ∷ D ∷ Time ∷ zeroNine ∷ Service ∷ Barcode ∷ T ∷ Form ∷ zeroOneTwo ∷ oneTwo ∷ Id ∷ O ∷ K ∷ Zeros ∷ exactC ∷ exact09 ∷ exact52 ∷ NOrBlank ∷ []
+kinds = N ∷ D ∷ Time ∷ zeroNine ∷ Service ∷ Barcode ∷ T ∷ Form ∷ zeroOneTwo ∷ oneTwo ∷ Id ∷ O ∷ K ∷ Zeros ∷ exactC ∷ exact09 ∷ exact52 ∷ NOrBlank ∷ Code ∷ []
 
 abbrev pub kindCount : ℕ
 kindCount = length kinds
@@ -88,6 +88,7 @@ mayBe (OneOf domain) w = eqb w 1
 mayBe Service w = true
 mayBe Form w = true
 mayBe Barcode w = true
+mayBe Code w = true
 mayBe (RecordType b) w = eqb w 1
 mayBe (Segment b) w = eqb w 1
 

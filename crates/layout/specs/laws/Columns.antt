@@ -23,7 +23,7 @@ use Rattle.layout.specs.laws.Records.{each, tabled}
 
 -- where each record's fields start, as the code has it
 abbrev pub starts : List ℕ
-starts = 0 ∷ 22 ∷ 46 ∷ 71 ∷ 80 ∷ 101 ∷ 119 ∷ 125 ∷ 135 ∷ 143 ∷ []
+starts = 0 ∷ 22 ∷ 46 ∷ 71 ∷ 80 ∷ 101 ∷ 119 ∷ 125 ∷ 135 ∷ 143 ∷ 159 ∷ []
 
 abbrev pub spanIn : List ℕ → ℕ → Span
 spanIn column n = record { first = getD column n 0; past = getD column (n + 1) 0 }

@@ -70,7 +70,7 @@ none-below k n b = go (decLt k n)
     go (no h) = omega arith
 
 kinds-filled : Below (λ n. Filled (kindOf n) (fillOf n)) kindCount
-kinds-filled = (a-number refl, (a-number refl, (a-number refl, (a-number refl, (a-number refl, (its-text refl, (its-text refl, (a-number refl, (a-number refl, (a-number refl, (its-text refl, (its-text refl, (fixed refl (λ w t. run-is 32 w), (fixed refl (λ w t. run-is 48 w), (fixed refl (exact-is LetterC (67 ∷ []) refl), (fixed refl (exact-is Code09 (48 ∷ 57 ∷ []) refl), (fixed refl (exact-is Code52 (53 ∷ 50 ∷ []) refl), (a-number refl, tt))))))))))))))))))
+kinds-filled = (a-number refl, (a-number refl, (a-number refl, (a-number refl, (a-number refl, (its-text refl, (its-text refl, (a-number refl, (a-number refl, (a-number refl, (its-text refl, (its-text refl, (fixed refl (λ w t. run-is 32 w), (fixed refl (λ w t. run-is 48 w), (fixed refl (exact-is LetterC (67 ∷ []) refl), (fixed refl (exact-is Code09 (48 ∷ 57 ∷ []) refl), (fixed refl (exact-is Code52 (53 ∷ 50 ∷ []) refl), (a-number refl, (its-text refl, tt)))))))))))))))))))
 
 -- any other number is F
 pub other-kind : (n : ℕ) → mark? n ≡ false → kindCount ≤ n → kindOf n ≡ F
@@ -103,7 +103,7 @@ filled n = go (mark? n) refl (decLt n kindCount)
 -- ---- the kind of a number that may be not given
 
 kinds-absent : Below (λ n. mayBeAbsent (means (kindOf n) .held) ≡ eqb n nOrBlank) kindCount
-kinds-absent = (refl, (refl, (refl, (refl, (refl, (refl, (refl, (refl, (refl, (refl, (refl, (refl, (refl, (refl, (refl, (refl, (refl, (refl, tt))))))))))))))))))
+kinds-absent = (refl, (refl, (refl, (refl, (refl, (refl, (refl, (refl, (refl, (refl, (refl, (refl, (refl, (refl, (refl, (refl, (refl, (refl, (refl, tt)))))))))))))))))))
 
 pub absent-is : (n : ℕ) → mayBeAbsent (means (kindOf n) .held) ≡ eqb n nOrBlank
 absent-is n = go (mark? n) refl (decLt n kindCount)

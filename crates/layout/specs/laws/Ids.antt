@@ -2,10 +2,10 @@
 use mathlib.Core.Path.{_≡_, refl}
 use mathlib.Core.Bool.{Bool, true, false, cond}
 use mathlib.Core.List.{List, [], _∷_, map}
-use Rattle.layout.specs.Field.{Kind, N, NOrBlank, Id, T, F, D, Time, K, O, Zeros, Exact, OneOf, Service, Form, Barcode, RecordType, Segment, Field}
+use Rattle.layout.specs.Field.{Kind, N, NOrBlank, Id, T, F, D, Time, K, O, Zeros, Exact, OneOf, Service, Form, Barcode, Code, RecordType, Segment, Field}
 use Rattle.layout.specs.Table.{fieldsOf, idType}
 use Rattle.layout.specs.declared.Record.{Record}
-use Rattle.layout.specs.declared.Record.the-variants.{FileHeader, BatchHeader, SegmentA, SegmentB, SegmentJ, SegmentJ52, SegmentZ, BatchTrailer, FileTrailer}
+use Rattle.layout.specs.declared.Record.the-variants.{FileHeader, BatchHeader, SegmentA, SegmentB, SegmentJ, SegmentJ52, SegmentZ, BatchTrailer, FileTrailer, SegmentO}
 
 abbrev pub isId : Kind → Bool
 isId N = false
@@ -23,6 +23,7 @@ isId (OneOf domain) = false
 isId Service = false
 isId Form = false
 isId Barcode = false
+isId Code = false
 isId (RecordType b) = false
 isId (Segment b) = false
 
@@ -51,3 +52,4 @@ types-beside SegmentJ52 = refl
 types-beside SegmentZ = refl
 types-beside BatchTrailer = refl
 types-beside FileTrailer = refl
+types-beside SegmentO = refl

@@ -25,4 +25,4 @@ number-index r = eqb→eq _ _ (each (λ r. eqb (indexOf r numberField) 3) tt r)
 
 -- a record that has an amount has the movement of its payment, first behind its letter
 pub with-movement : (r : Record) → (shapeOf r .amount ≡ NoAmount) ⊎ (own r ≡ movementField ∷ drop 1 (own r))
-with-movement = by-amount (λ r. (shapeOf r .amount ≡ NoAmount) ⊎ (own r ≡ movementField ∷ drop 1 (own r))) (λ r e. inl e) (inr refl) (inr refl)
+with-movement = by-amount (λ r. (shapeOf r .amount ≡ NoAmount) ⊎ (own r ≡ movementField ∷ drop 1 (own r))) (λ r e. inl e) (inr refl) (inr refl) (inr refl)

@@ -13,9 +13,9 @@ use Rattle.digits.specs.Digits.{digitByte}
 use Rattle.digits.specs.laws.Tests.{both}
 use Rattle.layout.specs.Records.{shapeOf, records, code, isOneOf, isDetail, typeByte, typeOf}
 use Rattle.layout.specs.declared.Record.{Record}
-use Rattle.layout.specs.declared.Record.the-variants.{FileHeader, BatchHeader, SegmentA, SegmentB, SegmentJ, SegmentJ52, SegmentZ, BatchTrailer, FileTrailer}
+use Rattle.layout.specs.declared.Record.the-variants.{FileHeader, BatchHeader, SegmentA, SegmentB, SegmentJ, SegmentJ52, SegmentZ, BatchTrailer, FileTrailer, SegmentO}
 use Rattle.layout.specs.declared.shapes.Amount.{Amount}
-use Rattle.layout.specs.declared.shapes.Amount.the-variants.{NoAmount, AmountOfA, AmountOfJ}
+use Rattle.layout.specs.declared.shapes.Amount.the-variants.{NoAmount, AmountOfA, AmountOfJ, AmountOfO}
 use Rattle.layout.specs.declared.shapes.LineType.{LineType}
 use Rattle.layout.specs.declared.shapes.LineType.the-variants.{FileFirst, BatchFirst, Detail, BatchLast, FileLast}
 
@@ -34,6 +34,7 @@ tabled SegmentJ52 = record { below = lit≤ tt; is = refl }
 tabled SegmentZ = record { below = lit≤ tt; is = refl }
 tabled BatchTrailer = record { below = lit≤ tt; is = refl }
 tabled FileTrailer = record { below = lit≤ tt; is = refl }
+tabled SegmentO = record { below = lit≤ tt; is = refl }
 
 -- a test at each of these records
 abbrev pub every : (Record → Bool) → List Record → Bool
@@ -83,23 +84,25 @@ by-type P file-header batch-header details batch-trailer file-trailer r = go (sh
     go BatchLast e = subst P (the-only r BatchLast e refl) batch-trailer
     go FileLast e = subst P (the-only r FileLast e refl) file-trailer
 
--- ---- and an amount is A's, or J's
+-- ---- and an amount is A's, J's or O's
 
 abbrev payer : Amount → Record → Record
 payer NoAmount r = r
 payer AmountOfA r = SegmentA
 payer AmountOfJ r = SegmentJ
+payer AmountOfO r = SegmentO
 
 paid-by : (r : Record) → payer (shapeOf r .amount) r ≡ r
 paid-by r = sym (same-code r _ (eqb→eq _ _ (each (λ r. eqb (code r) (code (payer (shapeOf r .amount) r))) tt r)))
 
-pub by-amount : (P : Record → Type 0) → ((r : Record) → shapeOf r .amount ≡ NoAmount → P r) → P SegmentA → P SegmentJ → (r : Record) → P r
-by-amount P without of-a of-j r = go (shapeOf r .amount) refl
+pub by-amount : (P : Record → Type 0) → ((r : Record) → shapeOf r .amount ≡ NoAmount → P r) → P SegmentA → P SegmentJ → P SegmentO → (r : Record) → P r
+by-amount P without of-a of-j of-o r = go (shapeOf r .amount) refl
   where
     go : (a : Amount) → shapeOf r .amount ≡ a → P r
     go NoAmount e = without r e
     go AmountOfA e = subst P (ap (λ (a : Amount). payer a r) (sym e) ∙ paid-by r) of-a
     go AmountOfJ e = subst P (ap (λ (a : Amount). payer a r) (sym e) ∙ paid-by r) of-j
+    go AmountOfO e = subst P (ap (λ (a : Amount). payer a r) (sym e) ∙ paid-by r) of-o
 
 -- a detail, by the byte of its type
 pub detail-line : (r : Record) → typeOf r ≡ digitByte 3 → shapeOf r .line ≡ Detail

@@ -8,7 +8,7 @@ use lib.ListN.{length, getD}
 use Rattle.digits.specs.Digits.{leading, allDigits}
 use Rattle.digits.specs.Numbers.{mostDigits}
 use Rattle.digits.specs.laws.Tests.{both}
-use Rattle.layout.specs.Field.{Kind, N, NOrBlank, Id, T as Text, F, D, Time, K, O, Zeros, Exact, OneOf, Service, Form, Barcode, RecordType, Segment, Field, none}
+use Rattle.layout.specs.Field.{Kind, N, NOrBlank, Id, T as Text, F, D, Time, K, O, Zeros, Exact, OneOf, Service, Form, Barcode, Code, RecordType, Segment, Field, none}
 use Rattle.layout.specs.Table.{serviceField, formField, fieldsOf}
 use Rattle.layout.specs.Kinds.{Held, aNumber, asBytes, asFixed, means}
 use Rattle.layout.specs.inner.Lent.{mayBe}
@@ -46,6 +46,7 @@ proper (OneOf domain) f = allDigits domain
 proper Service f = stands serviceField f
 proper Form f = stands formField f
 proper Barcode f = true
+proper Code f = true
 proper (RecordType b) f = true
 proper (Segment b) f = true
 

@@ -1,5 +1,5 @@
--- Files that are accepted, computed: the paper's own of one credit of 100.00, a return of both kinds of batch, with Z, and that
--- return with payments withdrawn. Assumes nothing.
+-- Files that are accepted, computed: the paper's own of one credit of 100.00, a return of credits and boletos, with Z, and
+-- that return with payments withdrawn. Assumes nothing.
 use mathlib.Core.Path.{_≡_, refl}
 use mathlib.Core.Bool.{Bool, true, false, _&&_}
 use mathlib.Core.List.{List, _++_}

@@ -13,6 +13,7 @@ use Rattle.layout.specs.Records.{typeOf}
 use Rattle.layout.specs.Table.{typePlace, segmentPlace, recordBytes, bankField, batchField, numberField}
 use Rattle.layout.specs.declared.Direction.{Direction}
 use Rattle.layout.specs.declared.Record.{Record}
+use Rattle.layout.specs.declared.pairs.Batch.{Batch}
 use Rattle.layout.specs.declared.Record.the-variants.{FileHeader, SegmentJ}
 use Rattle.checker.specs.Line.{lineBytes, recordIn, lineIs, lineFrom}
 use Rattle.checker.specs.Machine.{start}
@@ -27,14 +28,14 @@ use Rattle.checker.specs.declared.Checker.{Checker}
 use Rattle.files.specs.declared.whole.Outcome.{Outcome}
 use Rattle.files.specs.declared.whole.Outcome.the-variants.{Accepted, Refused}
 use Rattle.promises.specs.Grammar.{RightLine}
-use Rattle.promises.specs.Guarded.{On, In, Guarded, line-end, first-eight, detail, fixed, credit-amount, boleto-values, boleto-amount, batch-trailer, file-trailer, barcode, lineAt, GuardedIn, changed}
+use Rattle.promises.specs.Guarded.{On, In, LetterGuarded, Guarded, line-end, first-eight, detail-number, letter, fixed, credit-amount, boleto-values, boleto-amount, collection-amount, batch-trailer, file-trailer, barcode, lineAt, GuardedIn, changed}
 use Rattle.promises.specs.laws.Facts.{either-direction}
 use Rattle.promises.specs.laws.Differ.{Differ, stored}
 use Rattle.promises.specs.laws.Records.{BankFirst, bank-first}
-use Rattle.promises.specs.laws.SameLine.{Among, this, later, either, not-asked, listed-inside, not-fixed, not-letter}
+use Rattle.promises.specs.laws.SameLine.{Among, this, later, either, not-asked, listed-inside, not-fixed, not-letter, letter-loose}
 use Rattle.promises.specs.laws.SameBoleto.{in-barcode, not-values, not-paid, not-barcode}
 use Rattle.promises.specs.laws.Behind.{Ends, Goes, goes, behind, by-first}
-use Rattle.promises.specs.laws.NextLine.{not-bank, not-amount}
+use Rattle.promises.specs.laws.NextLine.{not-bank, not-credit, not-collection}
 use Rattle.promises.specs.laws.OtherRecord.{one-record}
 
 -- read as the record that r is
@@ -64,39 +65,55 @@ module _ {p : ℕ} {r : Record} {s : Checker} {ls : List (List ℕ)} (l l′ : L
           let e : typePlace ≡ p = omega arith in
           d .here (subst (λ (q : ℕ). place q (recordIn l) ≡ place q (recordIn l′)) e (g .typed ∙ sym (g′ .typed)))
 
-  -- number and letter
-  not-detail : typeOf r ≡ digitByte 3 → On (numberField .from) segmentPlace p → ⊥
-  not-detail e h = go (decLe p (numberField .to))
-    where
-      go : Dec (p ≤ numberField .to) → ⊥
-      go (yes k) = unread refl (subst (Among p) (sym (detail-of r e .asks s)) (later (later (this (h .0, k)))))
-      go (no k) = not-letter d (g .fitting .right) (g′ .fitting .right) e (omega arith)
+  -- the number of a detail
+  not-number : typeOf r ≡ digitByte 3 → In numberField p → ⊥
+  not-number e h = unread refl (subst (Among p) (sym (detail-of r e .asks s)) (later (later (this h))))
 
-  not-guarded : {dir : Direction} (b : ℕ) → l′ ≡ set l (p - 1) b → b ≢ place p (recordIn l) → p ≤ recordBytes
-      → RightLine r dir l → RightLine r dir l′ → Guarded dir r l p → ⊥
+  not-guarded : {dir : Direction} {kind : Batch} (b : ℕ) → l′ ≡ set l (p - 1) b → b ≢ place p (recordIn l) → p ≤ recordBytes
+      → RightLine r dir l → RightLine r dir l′ → Guarded dir kind r l p → ⊥
   not-guarded b q ne few a a′ (line-end h) = omega arith
   not-guarded b q ne few a a′ (first-eight h) = not-first h
-  not-guarded b q ne few a a′ (detail e h) = not-detail e h
+  not-guarded b q ne few a a′ (detail-number e h) = not-number e h
+  not-guarded b q ne few a a′ (letter e c h) = not-letter d a a′ e h
   not-guarded b q ne few a a′ (fixed m k h) = not-fixed d a a′ m k h
-  not-guarded b q ne few a a′ (credit-amount e h) = not-amount l l′ d (goes-as l e g) (goes-as l′ e g′) h
+  not-guarded b q ne few a a′ (credit-amount e h) = not-credit l l′ d (goes-as l e g) (goes-as l′ e g′) h
   not-guarded b q ne few a a′ (boleto-values e h) = not-values d (right-as l e a) (right-as l′ e a′) h
   not-guarded b q ne few a a′ (boleto-amount e h) = not-paid d (right-as l e a) (right-as l′ e a′) h
+  not-guarded b q ne few a a′ (collection-amount e h) = not-collection l l′ d (goes-as l e g) (goes-as l′ e g′) h
   not-guarded b q ne few a a′ (batch-trailer e h) = unread e (later (later (either refl h)))
   not-guarded b q ne few a a′ (file-trailer e h) = unread e (later (later (either refl h)))
   not-guarded {dir} b q ne few a a′ (barcode e h at) = not-barcode l p b (right-as l e a) (subst (RightLine SegmentJ dir) q (right-as l′ e a′)) h at ne
 
 -- a guarded place is a place of a line
-counted : {dir : Direction} {r : Record} {l : List ℕ} {p : ℕ} → Guarded dir r l p → (1 ≤ p) × (p ≤ lineBytes)
+counted : {dir : Direction} {kind : Batch} {r : Record} {l : List ℕ} {p : ℕ} → Guarded dir kind r l p → (1 ≤ p) × (p ≤ lineBytes)
 counted (line-end h) = omega arith
 counted (first-eight h) = omega arith
-counted (detail e h) = omega arith
+counted (detail-number e h) = omega arith
+counted (letter e c h) = omega arith
 counted {r = r} (fixed m k h) = let i = listed-inside r m in omega arith
 counted (credit-amount e h) = omega arith
 counted (boleto-values e h) = omega arith
 counted (boleto-amount e h) = omega arith
+counted (collection-amount e h) = omega arith
 counted (batch-trailer e h) = omega arith
 counted (file-trailer e h) = omega arith
 counted (barcode e h q) = let i = in-barcode h in omega arith
+
+-- a guarded letter
+letter-guarded : {dir : Direction} {kind : Batch} {r : Record} {l : List ℕ} {p : ℕ} → Guarded dir kind r l p → typeOf r ≡ digitByte 3 → p ≡ segmentPlace
+    → LetterGuarded dir kind
+letter-guarded (line-end h) e q = absurd (omega arith)
+letter-guarded (first-eight h) e q = absurd (omega arith)
+letter-guarded (detail-number t h) e q = absurd (omega arith)
+letter-guarded (letter t c h) e q = c
+letter-guarded {r = r} (fixed {f} m k h) e q = absurd (letter-loose r e m (subst (In f) q h) k)
+letter-guarded (credit-amount t h) e q = absurd (omega arith)
+letter-guarded (boleto-values t h) e q = absurd (omega arith)
+letter-guarded (boleto-amount t h) e q = absurd (omega arith)
+letter-guarded (collection-amount t h) e q = absurd (omega arith)
+letter-guarded (batch-trailer t h) e q = absurd (omega arith)
+letter-guarded (file-trailer t h) e q = absurd (omega arith)
+letter-guarded (barcode t h x) e q = let i = in-barcode h in absurd (omega arith)
 
 -- ---- two lines at one state
 
@@ -106,7 +123,7 @@ by-direction l (inl q) a = right-as l (sym q) (either-direction (right-as l q a)
 by-direction {r} l (inr q) a = subst (λ (x : Direction). RightLine r x l) q a
 
 module _ {s : Checker} {ls : List (List ℕ)} {dir : Direction} {r r′ : Record} (l : List ℕ) (p b : ℕ)
-    (g : Goes r s l ls) (g′ : Goes r′ s (set l (p - 1) b) ls) (guarded : Guarded dir r l p) (ne : b ≢ place p l) where
+    (g : Goes r s l ls) (g′ : Goes r′ s (set l (p - 1) b) ls) (guarded : Guarded dir (s .batch) r l p) (ne : b ≢ place p l) where
   at : (1 ≤ p) × (p ≤ lineBytes)
   at = counted guarded
 
@@ -129,6 +146,11 @@ module _ {s : Checker} {ls : List (List ℕ)} {dir : Direction} {r r′ : Record
       let back : set l (p - 1) b ≡ l = g′ .fitting .right .ended ∙ (same ∙ sym (g .fitting .right .ended)) in
       ne (sym (getD-set-same l (p - 1) b 0 (omega (arith, long, at))) ∙ ap (place p) back)
 
+  -- a letter that is changed is a guarded one
+  told : (r ≡ FileHeader) ⊎ (s .dir ≡ dir) → typeOf r ≡ digitByte 3 → p ≡ segmentPlace → LetterGuarded (s .dir) (s .batch)
+  told (inl q) e h = absurd (let z : digitByte 0 ≡ digitByte 3 = ap typeOf (sym q) ∙ e in omega arith)
+  told (inr q) e h = rw q (letter-guarded guarded e h)
+
   not-both : (r ≡ FileHeader) ⊎ (s .dir ≡ dir) → ⊥
   not-both dirs = go (decLe p recordBytes)
     where
@@ -136,7 +158,7 @@ module _ {s : Checker} {ls : List (List ℕ)} {dir : Direction} {r r′ : Record
       go (yes few) =
           let l′ = set l (p - 1) b in
           let d = differ few in
-          let h = goes-as l′ (sym (one-record l l′ d g g′)) g′ in
+          let h = goes-as l′ (sym (one-record l l′ d (told dirs) g g′)) g′ in
           not-guarded l l′ d g h b refl (in-record few) few (by-direction l dirs (g .fitting .right)) (by-direction l′ dirs (h .fitting .right)) guarded
       go (no more) = not-end (omega arith)
 
@@ -218,7 +240,7 @@ not-both-accepted file t t′ n p b e e′ g ne =
     let found = goes (behind _ xs whole) in
     let same : found .0 ≡ g .which = cc (found .1 .read, read) in
     let dirs = rw (first-record n file h) at (by-first xs _ (recordIn l) whole read) in
-    not-both l p b (goes-as l same (found .1)) (goes (behind _ xs other) .1) (g .guarded) ne dirs
+    not-both l p b (goes-as l same (found .1)) (goes (behind _ xs other) .1) (rw (take-earlier n file h) at (g .guarded)) ne dirs
 
 pub change-refused : (file : List ℕ) (t : Totals) (n p b : ℕ) → checkFile file ≡ Accepted t → GuardedIn file n p → b ≢ place p (lineAt n file)
     → (r : Refusal) × (checkFile (changed file n p b) ≡ Refused r)

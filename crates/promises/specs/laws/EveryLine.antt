@@ -9,6 +9,7 @@ use lib.ListN.{length, getD, length-append}
 use Rattle.answer.specs.declared.Refusal.{Refusal}
 use Rattle.digits.specs.Digits.{place}
 use Rattle.layout.specs.declared.Record.{Record}
+use Rattle.layout.specs.declared.pairs.Batch.{Batch}
 use Rattle.layout.specs.declared.Record.the-variants.{FileHeader}
 use Rattle.checker.specs.Line.{lineBytes, recordIn}
 use Rattle.checker.specs.Machine.{start, directionOf}
@@ -62,9 +63,9 @@ module _ (file : List ℕ) (t : Totals) (n p : ℕ) (e : checkFile file ≡ Acce
       m : Meets file t
       m = accepted-exactly file t .0 e
 
-      listed : {r : Record} {l : List ℕ} → On 1 8 p ⊎ On 241 242 p → Guarded (directionOf (recordIn file)) r l p
-      listed {l = l} (inl h) = as-listed _ l p .every-line h
-      listed {l = l} (inr h) = as-listed _ l p .ends h
+      listed : {b : Batch} {r : Record} {l : List ℕ} → On 1 8 p ⊎ On 241 242 p → Guarded (directionOf (recordIn file)) b r l p
+      listed {l = l} (inl h) = as-listed _ _ l p .every-line h
+      listed {l = l} (inr h) = as-listed _ _ l p .ends h
 
       go : On 1 8 p ⊎ On 241 242 p → GuardedIn file n p
       go at =

@@ -52,7 +52,8 @@ use Rattle.writer.specs.laws.Sequences as writer
 use Rattle.writer.specs.declared.Writer.{Writer}
 use Rattle.writer.specs.declared.Written.{Written}
 use Rattle.promises.specs.Calls.{table, InTable, Ends, Concludes, accepted, refused, OnNoLine, nothing, OneOfNext, CheckerCalls, FileCalls, OnlyReached, NextOrNone, AnyCalls, LineIn, IncomingCalls, WriterCalls, RecordCalls, StringCalls}
-use Rattle.promises.specs.laws.Tabled.{Alone, tested, record-rules, line-rules, barcode-rules, digit-line-rules, call-rules}
+use Rattle.promises.specs.Strings.{Family, boletos, collections}
+use Rattle.promises.specs.laws.Tabled.{Alone, tested, record-rules, line-rules, barcode-rules, digit-line-rules, code-rules, code-line-rules, call-rules}
 
 -- ---- by rules of the table that are on no line
 
@@ -88,14 +89,20 @@ record-calls r d = record {
   write = λ v w. writes (record-rules r d (recordOf r v)) w;
 }
 
--- calls with digit strings
-pub string-calls : StringCalls
-string-calls = record {
-  check-barcode = λ bar. checks (barcode-rules bar);
-  check-digit-line = λ line. checks (digit-line-rules line);
-  to-line = λ bar w. writes (barcode-rules bar) w;
-  to-barcode = λ line w. writes (digit-line-rules line) w;
+-- calls with digit strings of a family whose rules are of the table
+string-calls : (f : Family) → ((code : List ℕ) → Only Alone (f .codeRules code)) → ((line : List ℕ) → Only Alone (f .lineRules line)) → StringCalls f
+string-calls f codes lines = record {
+  check-code = λ code. checks (codes code);
+  check-line = λ line. checks (lines line);
+  to-line = λ code w. writes (codes code) w;
+  to-code = λ line w. writes (lines line) w;
 }
+
+pub boleto-calls : StringCalls boletos
+boleto-calls = string-calls boletos barcode-rules digit-line-rules
+
+pub collection-calls : StringCalls collections
+collection-calls = string-calls collections code-rules code-line-rules
 
 -- ---- the checker
 

@@ -1,14 +1,9 @@
 -- Calls of the writer with registration numbers, computed: a wrong one is refused record by record, behind the record's own fields. Assumes nothing.
-use mathlib.Core.Bool.{Bool, true, false, _&&_}
 use mathlib.Core.List.{List, [], _∷_, flatten}
-use Prim.Native.Nat.{ℕ, _*_}
 use Prim.Native.String.{String}
 use lib.Dec.{T}
-use lib.ListN.{replicate}
 use Rattle.answer.specs.Rules.{firstBroken}
 use Rattle.answer.specs.Output.{over}
-use Rattle.answer.specs.declared.Answer.{Answer}
-use Rattle.answer.specs.declared.Answer.the-variants.{Accepted, Refused}
 use Rattle.digits.specs.Digits.{bytes, leading, everyByte, weighed}
 use Rattle.digits.specs.Numbers.{numberOf, lastDigits, numeral}
 use Rattle.digits.specs.Checks.{counts, lift, checkDigit}
@@ -24,15 +19,15 @@ use Rattle.layout.specs.declared.Record.the-variants.{FileHeader, BatchHeader, 
 use Rattle.fields.specs.Values.{joined, recordOf, blankFields, withNumber, withText}
 use Rattle.fields.specs.declared.Fields.{Fields}
 use Rattle.checker.specs.Totals.{add}
-use Rattle.checker.specs.Line.{lineBytes, boletoRules}
+use Rattle.checker.specs.Line.{boletoRules}
 use Rattle.checker.specs.Machine.{sound}
 use Rattle.writer.specs.Given.{Call, openFile, openBatch, pay, two, three}
 use Rattle.filling.specs.Filling.{filled}
 use Rattle.writer.specs.Refusals.{allGiven, givenRules, held, callRules}
-use Rattle.writer.specs.Outcome.{newWriter, linesFor, behindAll, answerOf}
+use Rattle.writer.specs.Outcome.{linesFor, behindAll, answerOf}
 use Rattle.writer.specs.Calls.{lentOn}
 use Rattle.promises.specs.Demands.{rightAnswers}
-use Rattle.promises.specs.laws.AcceptedFiles.{isAt}
+use Rattle.promises.specs.laws.Trials.{Calls, taken, refusedAs, everyCalls}
 use Rattle.promises.specs.laws.WrittenFile.{number, text, entered, named, fileHeader, batchHeader, segmentA, segmentB}
 
 -- a header or a B with another number, and a wrong one
@@ -65,13 +60,8 @@ inCredit c = openFile (fileHeader 1) ∷ openBatch batchHeader ∷ c ∷ []
 abbrev pub inBoleto : Call → List Call
 inBoleto c = openFile (fileHeader 2) ∷ openBatch boletoHeader ∷ c ∷ []
 
--- calls that are accepted; calls of which the last is refused with a number, at a line and a place
-pub data Example : Type 0 where
-  taken : List Call → Example
-  refusedAs : List Call → ℕ → ℕ → ℕ → Example
-
 -- 26 in each header, in B and in J52; a wrong field of the record itself, and of the A before a B, comes first; a Z that is not expected comes behind; and wrong characters are 8
-unfoldable pub table : List Example
+unfoldable pub table : List Calls
 table =
     refusedAs (openFile (withId wrongId (fileHeader 1)) ∷ []) 26 1 19
     ∷ refusedAs (openFile (withNumber (named FileHeader 144) 0 (withId wrongId (fileHeader 1))) ∷ []) 15 1 144
@@ -86,29 +76,6 @@ table =
     ∷ refusedAs (inBoleto (pay (two segmentJ (segmentJ52 "012ABC34501DE36")))) 26 4 133
     ∷ []
 
-abbrev pub allTaken : List Answer → Bool
-allTaken [] = true
-allTaken (Accepted ∷ later) = allTaken later
-allTaken (Refused r ∷ later) = false
-
-abbrev pub lastRefused : ℕ → ℕ → ℕ → List Answer → Bool
-lastRefused n line place [] = false
-lastRefused n line place (Accepted ∷ later) = lastRefused n line place later
-lastRefused n line place (Refused r ∷ []) = isAt n line place r
-lastRefused n line place (Refused r ∷ (next ∷ later)) = false
-
--- in memory for six lines
-abbrev pub answers : List Call → List Answer
-answers cs = rightAnswers newWriter (lentOn newWriter cs (replicate (6 * lineBytes) 0))
-
-abbrev pub holds : Example → Bool
-holds (taken cs) = allTaken (answers cs)
-holds (refusedAs cs n line place) = lastRefused n line place (answers cs)
-
-abbrev pub every : List Example → Bool
-every [] = true
-every (x ∷ xs) = holds x && every xs
-
-pub table-holds : T (every table)
+pub table-holds : T (everyCalls table)
 unfolding table rightAnswers lentOn entered before indexOf firstBroken over leading everyByte weighed counts lift checkDigit charactersFit idFits numberOf lastDigits numeral exists dateFits timeFits daysOfYears dayNumber dueDays folded factorOf same batchOf rulesOf clean fieldsOf joined recordOf add boletoRules sound filled givenRules allGiven held callRules linesFor behindAll answerOf flatten
 table-holds = tt

@@ -1,10 +1,8 @@
 -- Files with other registration numbers than the accepted ones have, computed: accepted; refused with the fields, as 8 or, for a type, 14; or as 26 behind
 -- all fields of the line, the leftmost number first. Assumes nothing.
 use mathlib.Core.Path.{_≡_, refl}
-use mathlib.Core.Bool.{Bool, true, false, _&&_}
+use mathlib.Core.Bool.{true}
 use mathlib.Core.List.{List, [], _∷_}
-use Prim.Native.Nat.{ℕ, _-_}
-use Prim.Native.String.{String}
 use lib.Dec.{T}
 use lib.ListN.{getD}
 use Rattle.answer.specs.Rules.{accepts, firstBroken}
@@ -23,36 +21,9 @@ use Rattle.layout.specs.declared.Record.the-variants.{SegmentJ52}
 use Rattle.checker.specs.Totals.{add}
 use Rattle.checker.specs.Line.{recordIn, within, boletoRules, rulesOfType, rulesAs, typeRules, lineRules, rulesOfLine}
 use Rattle.checker.specs.Machine.{sound, stepOf}
-use Rattle.files.specs.File.{cut, steps, endOf, finish, checkFile, linesOf}
-use Rattle.files.specs.declared.whole.Outcome.{Outcome}
-use Rattle.files.specs.declared.whole.Outcome.the-variants.{Accepted, Refused}
-use Rattle.promises.specs.laws.AcceptedFiles.{isAccepted, isAt, overwritten, creditFile, returnFile}
-
--- a text, most of the time a type and its number, put over those of a line, counted from 1, from a place on
-pub record Put : Type 0 where
-  pub line : ℕ
-  pub place : ℕ
-  pub text : String
-
-abbrev pub put : ℕ → ℕ → String → Put
-put line place text = record { line = line; place = place; text = text }
-
-unfoldable pub withAll : List Put → List ℕ → List ℕ
-withAll [] file = file
-withAll (x ∷ xs) file = withAll xs (overwritten file (x .line - 1) (x .place) (x .text))
-
--- a file with these is accepted; or it is refused with a number, at a line and a place
-pub data IdFile : Type 0 where
-  right : List ℕ → List Put → IdFile
-  wrong : List ℕ → List Put → ℕ → ℕ → ℕ → IdFile
-
-abbrev pub isRefused : ℕ → ℕ → ℕ → Outcome → Bool
-isRefused n line place (Accepted t) = false
-isRefused n line place (Refused r) = isAt n line place r
-
-abbrev pub holds : IdFile → Bool
-holds (right file puts) = isAccepted (checkFile (withAll puts file))
-holds (wrong file puts n line place) = isRefused n line place (checkFile (withAll puts file))
+use Rattle.files.specs.File.{cut, steps, endOf, finish, linesOf}
+use Rattle.promises.specs.laws.AcceptedFiles.{creditFile, returnFile}
+use Rattle.promises.specs.laws.Trials.{Put, put, withAll, Changed, right, wrong, everyFile}
 
 -- the third number of a J52 alone, and all three
 abbrev pub third : List Put
@@ -61,7 +32,7 @@ third = put 11 132 "2012ABC34501DE36" ∷ []
 abbrev pub allThree : List Put
 allThree = put 11 20 "2012345678000194" ∷ put 11 76 "2034567890000131" ∷ third
 
-unfoldable pub table : List IdFile
+unfoldable pub table : List Changed
 table =
     right creditFile (put 1 18 "212ABC34501DE35" ∷ put 2 18 "2126BC34501DE35" ∷ put 4 18 "212ABC34501DE35" ∷ [])
     ∷ right creditFile (put 1 18 "100000000000604" ∷ put 2 18 "100010000000604" ∷ put 4 18 "100052998224725" ∷ [])
@@ -84,11 +55,7 @@ table =
     ∷ wrong returnFile (put 11 188 "X" ∷ allThree) 12 11 188
     ∷ []
 
-abbrev pub every : List IdFile → Bool
-every [] = true
-every (x ∷ xs) = holds x && every xs
-
-pub table-holds : T (every table)
+pub table-holds : T (everyFile table)
 unfolding table withAll firstBroken leading everyByte weighed counts lift checkDigit charactersFit idFits numberOf exists dateFits timeFits daysOfYears dayNumber dueDays folded factorOf same batchOf rulesOf clean fieldsOf cut steps endOf finish within boletoRules rulesOfType rulesAs typeRules lineRules rulesOfLine sound stepOf add
 table-holds = tt
 

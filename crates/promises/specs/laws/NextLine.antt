@@ -1,34 +1,39 @@
--- Changes that only later lines show: the file header's bank, a Z for a payment's first record, the amount of a credit. Assumes nothing.
+-- Changes that only later lines show: the file header's bank, a Z for a payment's first record, the amount of a credit or of a collection.
+-- Assumes nothing.
 use mathlib.Core.Path.{_≡_, refl, sym, ap, _∙_, subst, subst₂}
 use mathlib.Core.Logic.{_≢_, _⊎_, inl, inr, ⊎-elim}
 use mathlib.Core.Bool.{true}
 use mathlib.Core.List.{List, [], _∷_}
-use Prim.Native.Nat.{ℕ}
+use Prim.Native.Nat.{ℕ, _-_, _≤_}
 use native.Mathlib.Omega.{arith}
 use borrow.Author.Tests.{eqb-true}
 use lib.Dec.{eqb, lit≤}
 use lib.ListN.{length}
 use Rattle.answer.specs.Rules.{AllKept}
 use Rattle.answer.specs.laws.Order.{never}
-use Rattle.digits.specs.Digits.{digitByte, place, places}
-use Rattle.layout.specs.Records.{typeOf, creditAmount}
+use Rattle.digits.specs.Digits.{digitByte, place, places, allDigits}
+use Rattle.digits.specs.Numbers.{mostDigits, value}
+use Rattle.layout.specs.Field.{Field, part}
+use Rattle.layout.specs.Records.{typeOf, creditAmount, collectionAmount}
 use Rattle.layout.specs.Table.{typePlace, fieldsOf, bankField}
 use Rattle.layout.specs.Kinds.{run, blank, isFixed, oneOf}
 use Rattle.layout.specs.laws.Bytes.{and-left, same-true}
 use Rattle.layout.specs.declared.Direction.{Direction}
+use Rattle.layout.specs.declared.Direction.the-variants.{Return}
 use Rattle.layout.specs.declared.Record.{Record}
-use Rattle.layout.specs.declared.Record.the-variants.{FileHeader, BatchHeader, SegmentA, SegmentB, SegmentZ, BatchTrailer}
+use Rattle.layout.specs.declared.Record.the-variants.{FileHeader, BatchHeader, SegmentA, SegmentB, SegmentZ, BatchTrailer, SegmentO}
 use Rattle.layout.specs.declared.pairs.Batch.{Batch}
-use Rattle.layout.specs.declared.pairs.Batch.the-variants.{Credit, Boleto, Unknown}
+use Rattle.layout.specs.declared.pairs.Batch.the-variants.{Credit, Boleto, Unknown, Collection}
 use Rattle.checker.specs.Order.{ended}
-use Rattle.checker.specs.Totals.{add, centSum}
+use Rattle.checker.specs.Totals.{add, centSum, centsOf}
 use Rattle.checker.specs.Line.{recordIn, lineIs}
 use Rattle.checker.specs.Machine.{next}
 use Rattle.layout.specs.declared.shapes.Phase.{Phase}
 use Rattle.layout.specs.declared.shapes.Phase.the-variants.{Headed, Within, BehindZ}
 use Rattle.checker.specs.declared.Checker.{Checker}
 use Rattle.promises.specs.Grammar.{RightLine}
-use Rattle.promises.specs.Guarded.{In}
+use Rattle.promises.specs.Guarded.{In, LetterGuarded, in-remittance, of-credits, of-boletos}
+use Rattle.checker.specs.inner.Steps.{isReturn}
 use Rattle.checker.specs.laws.Edges.{goes-on, pays-behind-z, next-in, Follows, first-batch, pays, adds-z, closes-paid, closes-behind-z, stands-moves}
 use Rattle.checker.specs.laws.Payments.{Stands, phaseBehind, row, stands-in, one-stands}
 use Rattle.checker.specs.laws.Sums.{together}
@@ -86,6 +91,7 @@ not-first Boleto {e} {e′} l g h a a′ =
     let b′ = subst (λ (x : Record). RightLine x e′ l) (one-stands h (record { is = refl })) a′ in
     blank-or-digit (places 15 15 (recordIn l)) (right-at b 5 (lit≤ tt) .0) (right-at b′ 5 (lit≤ tt) .0)
 not-first Unknown l g h a a′ = omega (arith, stands-in g)
+not-first Collection l g h a a′ = omega (arith, stands-in g)
 
 -- it is neither a first record nor the batch trailer
 not-second : {d d′ e e′ : Direction} {b : Batch} {r r′ : Record} (l : List ℕ) → Follows d b (Within 1) r → Follows d′ b BehindZ r′
@@ -102,18 +108,19 @@ begun-or-behind-z (l ∷ ls) p p′ q q′ e e′ =
     let g′ = goes e′ .1 in
     not-second l (follows-at q p (g .follows)) (follows-at q′ p′ (g′ .follows)) (g .typed) (g′ .typed) (g .fitting .right) (g′ .fitting .right)
 
--- a payment has a second record
-second-comes : (b : Batch) {r : Record} → Stands b 0 r → phaseBehind 0 b ≡ Within 1
-second-comes Credit g = refl
-second-comes Boleto g = refl
-second-comes Unknown g = absurd (omega (arith, stands-in g))
+-- in a return a payment whose letters are guarded has a second record
+second-comes : {d : Direction} {b : Batch} → LetterGuarded d b → d ≡ Return → phaseBehind 0 b ≡ Within 1
+second-comes in-remittance e = never (ap isReturn e)
+second-comes of-credits e = refl
+second-comes of-boletos e = refl
 
-pub not-z : {r : Record} {s : Checker} {ls : List (List ℕ)} (l l′ : List ℕ) → Stands (s .batch) 0 r → Goes r s l ls → Goes SegmentZ s l′ ls → ⊥
-not-z {s = s} {ls} l l′ h g g′ =
+pub not-z : {r : Record} {s : Checker} {ls : List (List ℕ)} (l l′ : List ℕ) → LetterGuarded (s .dir) (s .batch) → s .dir ≡ Return
+    → Stands (s .batch) 0 r → Goes r s l ls → Goes SegmentZ s l′ ls → ⊥
+not-z {s = s} {ls} l l′ c d h g g′ =
     let k = stands-moves s (recordIn l) h in
-    begun-or-behind-z ls (k .phase ∙ second-comes (s .batch) h) refl (k .batch) refl (g .rest) (g′ .rest)
+    begun-or-behind-z ls (k .phase ∙ second-comes c d) refl (k .batch) refl (g .rest) (g′ .rest)
 
--- ---- the amount of a credit: the batch trailer has the sum
+-- ---- the amount of a credit or of a collection: the batch trailer has the sum
 
 -- behind a detail
 trailer-or-detail : {d : Direction} {b : Batch} {p : Phase} {r : Record} → Open p → Follows d b p r → (r ≡ BatchTrailer) ⊎ (typeOf r ≡ digitByte 3)
@@ -165,11 +172,23 @@ not-twins (l ∷ ls) {s} {s′} w e e′ =
     (trailer-or-detail (w .still) (g .follows))
 
 module _ {p : ℕ} {s : Checker} {ls : List (List ℕ)} (l l′ : List ℕ) (d : Differ p (recordIn l) (recordIn l′)) where
-  pub not-amount : Goes SegmentA s l ls → Goes SegmentA s l′ ls → In creditAmount p → ⊥
-  unfolding add fieldsOf AllKept
-  not-amount g g′ h =
-      let a = right-at (g .fitting .right) 19 (lit≤ tt) .0 in
-      let a′ = right-at (g′ .fitting .right) 19 (lit≤ tt) .0 in
-      not-twins ls
-      (record { still = at-within; phases = refl; directions = refl; batches = refl; cents = λ e. not-worth d creditAmount (omega arith) a a′ (omega (arith, together SegmentA (recordIn l), together SegmentA (recordIn l′))) h })
-      (g .rest) (g′ .rest)
+  -- of a record that has this amount
+  not-summed : (r : Record) (f : Field) → typeOf r ≡ digitByte 3 → ((rec : List ℕ) → centsOf r rec ≡ value (part f rec)) → f .to - (f .from - 1) ≤ mostDigits
+      → allDigits (part f (recordIn l)) ≡ true → allDigits (part f (recordIn l′)) ≡ true → Goes r s l ls → Goes r s l′ ls → In f p → ⊥
+  unfolding add
+  not-summed r f e worth few a a′ g g′ h =
+      let k = detail-of r e in
+      let same : centsOf r (recordIn l) ≡ centsOf r (recordIn l′) → ⊥ = λ q. not-worth d f few a a′ (sym (worth (recordIn l)) ∙ q ∙ worth (recordIn l′)) h in
+      let twins : Twins (next r s (recordIn l)) (next r s (recordIn l′)) = rw (k .moves s (recordIn l), k .moves s (recordIn l′))
+      (record { still = k .stays; phases = refl; directions = refl; batches = refl; cents = λ q. same (omega (arith, together r (recordIn l), together r (recordIn l′))) }) in
+      not-twins ls twins (g .rest) (g′ .rest)
+
+  pub not-credit : Goes SegmentA s l ls → Goes SegmentA s l′ ls → In creditAmount p → ⊥
+  unfolding fieldsOf AllKept
+  not-credit g g′ =
+      not-summed SegmentA creditAmount refl (λ rec. refl) (omega arith) (right-at (g .fitting .right) 19 (lit≤ tt) .0) (right-at (g′ .fitting .right) 19 (lit≤ tt) .0) g g′
+
+  pub not-collection : Goes SegmentO s l ls → Goes SegmentO s l′ ls → In collectionAmount p → ⊥
+  unfolding fieldsOf AllKept
+  not-collection g g′ =
+      not-summed SegmentO collectionAmount refl (λ rec. refl) (omega arith) (right-at (g .fitting .right) 11 (lit≤ tt) .0) (right-at (g′ .fitting .right) 11 (lit≤ tt) .0) g g′

@@ -46,13 +46,13 @@ use Rattle.checker.specs.declared.totals.Totals.{Totals}
 use Rattle.files.specs.declared.whole.Outcome.{Outcome}
 use Rattle.files.specs.declared.whole.Outcome.the-variants.{Accepted}
 use Rattle.checker.specs.declared.Checker.{Checker}
-use Rattle.writer.specs.Given.{Call, openFile, openBatch, pay, closeBatch, closeFile, recordsIn, recordsOf, amountOf, amountIn}
+use Rattle.writer.specs.Given.{Call, openFile, openBatch, pay, closeBatch, closeFile, firstIn, recordsIn, recordsOf, amountOf, amountIn}
 use Rattle.filling.specs.Filling.{bytesOf}
 use Rattle.writer.specs.Refusals.{turns, recordsSoFar, kindGiven, leastDetails, trailers, turnLimits, expectedInPayment, expectedIn, expectedNow, nextBy, centsSoFar, sumRules, size}
 use Rattle.writer.specs.inner.Steps.{expectedAt}
 use Rattle.writer.specs.Outcome.{writer, newWriter, linesFor, behindAll, cursorBehind, answerOf}
 use Rattle.writer.specs.Calls.{WholeCalls, no-call, and-call, stateBehind, left, linesIf, written, putIn, lent, memoryBehind, lentOn, memory}
-use Rattle.writer.specs.laws.Given.{begins-with, fewest, as-payment}
+use Rattle.writer.specs.laws.Given.{begins-with, as-payment}
 use Rattle.writer.specs.laws.KindGiven.{kind-is}
 use Rattle.writer.specs.laws.Paying.{drop-one}
 use Rattle.writer.specs.laws.Expected.{expected-own, expected-last}
@@ -225,7 +225,7 @@ record Part (t : Checker) (n : ℕ) (done ls : List (List ℕ)) (s : Checker) : 
   may-pay : turns (t .phase) .payment ≡ true
   few : paymentCount (t .current) + 1 ≤ mostPayments
   sum-fits : centsSoFar t + amountOf (first .which) first < fileCents
-  paid : 1 ≤ length (payment (t .batch))
+  due : Stands (t .batch) 0 (first .which)
   rest : Ends s ls
 
 -- the first
@@ -252,7 +252,7 @@ module _ {r : Record} {t : Checker} {l : List ℕ} {ls : List (List ℕ)} (f : S
         may-pay = turn;
         few = omega (arith, row f .begins);
         sum-fits = sum-of-first;
-        paid = omega (arith, stands-in f);
+        due = f;
         rest = g .rest;
       }
 
@@ -273,7 +273,7 @@ part-more {t} {s} {n} {r} {l} {done} {ls} x g e m =
       may-pay = x .may-pay;
       few = x .few;
       sum-fits = x .sum-fits;
-      paid = x .paid;
+      due = x .due;
       rest = g .rest;
     }
 
@@ -283,14 +283,14 @@ module _ {t s : Checker} {n : ℕ} {done ls : List (List ℕ)} (x : Part t n don
   gs = x .first ∷ x .others
 
   paid-by : (p : Payment) × (recordsIn p ≡ gs)
-  paid-by = as-payment gs (omega (arith, x .many, fewest (t .batch) (x .paid))) (omega (arith, x .many))
+  paid-by = as-payment (t .batch) (x .first) (x .others) (x .due) (omega (arith, x .many)) (omega (arith, x .many))
 
   pays-so : Writes s ls → Writes t (done ++ ls)
   unfolding AllKept
   pays-so on at out h =
       let (p, is) = paid-by in
       let y : Gives (expectedInPayment t) t (recordsIn p) done s = subst⁻¹ (λ (ds : List Fields). Gives (expectedInPayment t) t ds done s) is (rw (append-nil gs, append-nil done) at (x .gives [] [] s gives-none)) in
-      let one : p .first ≡ x .first = head-of (sym (begins-with p) ∙ is) in
+      let one : firstIn p ≡ x .first = head-of (sym (begins-with p) ∙ is) in
       let long : length (recordsIn p) ≡ n = ap length is ∙ x .many in
       let few = le-leb (recordsSoFar t + (length (recordsIn p) + trailers)) mostRecords (omega (arith, h .few, y .many, length-append done ls)) in
       let fits : centsSoFar t + amountIn p < fileCents = rw one (x .sum-fits) in
@@ -338,7 +338,7 @@ module _ (s : Checker) (l : List ℕ) (ls : List (List ℕ)) where
       let moved : Moved s (next r s (recordIn l)) (after r) = rw (row f .phase) m in
       subst (Writes t) (append-assoc done (l ∷ []) ls) (rest-behind t (done ++ l ∷ []) ls there on (part-more x g (expected-own (t .dir) there) moved))
   by-edge q (adds-z e) g on = λ t done x.
-      let z = expected-last (t .dir) (t .batch) (x .paid) (sym (x .same-dir) ∙ e) in
+      let z = expected-last (t .dir) (t .batch) (omega (arith, stands-in (x .due))) (sym (x .same-dir) ∙ e) in
       let moved : Moved s (next SegmentZ s (recordIn l)) BehindZ = record { phase = refl; dir = refl; batch = refl } in
       subst (Writes t) (append-assoc done (l ∷ []) ls)
       (pays-so (part-more x g z moved) (omega arith) (omega (arith, brief (t .batch))) (enough-lines ls (g .rest)) on)

@@ -1,20 +1,26 @@
 -- Two right lines, read as one record at one state, that differ at one place: it isn't a place of a number that the state gives, of fixed content
--- or of the letter. Assumes nothing.
-use mathlib.Core.Path.{_≡_, sym, subst, _∙_}
+-- or of the letter; and where a detail has its letter no field is fixed. Assumes nothing.
+use mathlib.Core.Path.{_≡_, refl, sym, subst, _∙_}
+use mathlib.Core.Bool.{Bool, true, not, _&&_, _||_}
 use mathlib.Core.List.{List, [], _∷_, List·Memᴰ}
 use Prim.Native.Nat.{ℕ, suc, _≤_, _<_}
 use native.Mathlib.Decide.{decLe}
 use native.Mathlib.Omega.{arith}
+use borrow.Author.Tests.{ltb-true}
+use lib.Dec.{T, ltb, lit≤}
 use lib.ListN.{length, getD}
 use Rattle.answer.specs.Rules.{AllKept}
 use Rattle.answer.specs.laws.Order.{kept-front, kept-behind}
 use Rattle.digits.specs.Digits.{digitByte, place}
-use Rattle.layout.specs.Field.{Kind, Field, none}
-use Rattle.layout.specs.Records.{typeOf}
-use Rattle.layout.specs.Table.{fieldsOf, segmentPlace}
+use Rattle.digits.specs.laws.Tests.{both, so}
+use Rattle.layout.specs.Field.{Kind, Segment, Field, none}
+use Rattle.layout.specs.Records.{shapeOf, isDetail, typeOf}
+use Rattle.layout.specs.Table.{own, fieldsOf, segmentPlace}
 use Rattle.layout.specs.Kinds.{aPart, means, run, blank, text}
 use Rattle.layout.specs.Record.{fieldRules, rulesOf}
 use Rattle.layout.specs.laws.Tiling.{All, at, of-member, Inside, insides}
+use Rattle.layout.specs.laws.Records.{each, detail-line}
+use Rattle.layout.specs.declared.shapes.LineType.the-variants.{Detail}
 use Rattle.layout.specs.declared.Direction.{Direction}
 use Rattle.layout.specs.declared.Record.{Record}
 use Rattle.checker.specs.Line.{recordIn}
@@ -88,3 +94,43 @@ module _ {p : ℕ} {r : Record} {dir : Direction} {l l′ : List ℕ}
       let m = detail-of r e .marked in
       let same = letter-at r dir (recordIn l) (a .fields) e m ∙ sym (letter-at r dir (recordIn l′) (a′ .fields) e m) in
       d .here (subst (λ (q : ℕ). place q (recordIn l) ≡ place q (recordIn l′)) (sym h) same)
+
+-- ---- where a detail has its letter no field is fixed
+
+record Loose (f : Field) : Type 0 where
+  loose : (dir : Direction) → In f segmentPlace → Fixed dir (f .kind) → ⊥
+
+-- the letter's own field is not
+not-fixed-letter : {dir : Direction} {b : ℕ} {k : Kind} → Fixed dir k → k ≡ Segment b → ⊥
+not-fixed-letter blanks e = let z : _≡_ {A = ℕ} 0 1 = cc in omega arith
+not-fixed-letter zeros e = let z : _≡_ {A = ℕ} 0 1 = cc in omega arith
+not-fixed-letter exact e = let z : _≡_ {A = ℕ} 0 1 = cc in omega arith
+not-fixed-letter optional e = let z : _≡_ {A = ℕ} 0 1 = cc in omega arith
+
+-- a field that ends before it does not hold its place
+before-letter : {f : Field} → f .to < segmentPlace → Loose f
+before-letter h = record { loose = λ dir i k. omega arith }
+
+-- and those behind it neither
+abbrev behindLetter : List Field → Bool
+behindLetter [] = true
+behindLetter (f ∷ fs) = ltb segmentPlace (f .from) && behindLetter fs
+
+own-behind : (r : Record) → T (not (isDetail (shapeOf r .line)) || behindLetter (own r))
+own-behind r = each (λ r. not (isDetail (shapeOf r .line)) || behindLetter (own r)) tt r
+
+all-behind : (fs : List Field) → T (behindLetter fs) → All Loose fs
+unfolding All
+all-behind [] t = tt
+all-behind (f ∷ fs) t =
+    let b = both (ltb segmentPlace (f .from)) (behindLetter fs) t in
+    let h = ltb-true segmentPlace (f .from) (so _ (b .0)) in
+    (record { loose = λ dir i k. omega arith }, all-behind fs (b .1))
+
+all-loose : (r : Record) → shapeOf r .line ≡ Detail → All Loose (fieldsOf r)
+unfolding All fieldsOf
+all-loose r e =
+    rw e (before-letter (lit≤ tt), (before-letter (lit≤ tt), (before-letter (lit≤ tt), (before-letter (lit≤ tt), (record { loose = λ dir i k. not-fixed-letter k refl }, all-behind (own r) (rw e at (own-behind r)))))))
+
+pub letter-loose : (r : Record) {f : Field} {dir : Direction} → typeOf r ≡ digitByte 3 → List·Memᴰ f (fieldsOf r) → In f segmentPlace → Fixed dir (f .kind) → ⊥
+letter-loose r {f} {dir} e m = of-member Loose m (all-loose r (detail-line r e)) .loose dir

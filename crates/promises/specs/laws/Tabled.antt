@@ -17,7 +17,10 @@ use Rattle.digits.specs.Digits.{leading, allDigits}
 use Rattle.digits.specs.laws.Strings.{leading-le}
 use Rattle.digits.specs.laws.Tests.{both}
 use Rattle.boleto.specs.Strings.{barcodeDigits, lineDigits}
+use Rattle.boleto.specs.Parts.{stringRules}
 use Rattle.boleto.specs.Rules as boleto
+use Rattle.boleto.specs.Collection.{codeDigits, codeLineDigits}
+use Rattle.boleto.specs.CollectionRules.{codeHeadRules, codeRules, blockRules, codeLineRules}
 use Rattle.layout.specs.Records.{isOneOf}
 use Rattle.layout.specs.Table.{marks, fieldsOf, recordBytes, all, fieldsOfEach}
 use Rattle.layout.specs.Record.{rulesOf, byteRule, clean, recordRules}
@@ -27,7 +30,7 @@ use Rattle.layout.specs.declared.Direction.the-variants.{Remittance, Return}
 use Rattle.layout.specs.declared.Record.{Record}
 use Rattle.layout.specs.laws.Records.{each}
 use Rattle.layout.specs.declared.pairs.Batch.{Batch}
-use Rattle.checker.specs.Line.{within, boletoRules, houseRules, rulesOfType, rulesAs, recordIn, lineIs, readingRules, typeRules, lineRules, rulesOfLine}
+use Rattle.checker.specs.Line.{within, boletoRules, collectionRules, houseRules, rulesOfType, rulesAs, recordIn, lineIs, readingRules, typeRules, lineRules, rulesOfLine}
 use Rattle.checker.specs.Machine.{state, lineOf}
 use Rattle.checker.specs.declared.order.Reading.{Reading}
 use Rattle.checker.specs.declared.order.Reading.the-variants.{Line, Nothing}
@@ -85,11 +88,11 @@ unfolding table
 bytes rec short others =
     first (byteRule rec) (λ q. (refl, first-fault (suc (clean rec)) (clean rec) recordBytes rec (omega arith) (clean-le rec) q short)) (λ q. others)
 
-digits : (bs : List ℕ) {rs : List Rule} → length bs ≤ lineDigits → Only Alone rs → Only Alone (rule 41 (leading bs + 1) (allDigits bs) ∷ rs)
+digits : (bs : List ℕ) {rs : List Rule} → length bs ≤ codeLineDigits → Only Alone rs → Only Alone (rule 41 (leading bs + 1) (allDigits bs) ∷ rs)
 unfolding table
 digits bs short others =
     first (rule 41 (leading bs + 1) (allDigits bs))
-    (λ q. (refl, first-fault (leading bs + 1) (leading bs) lineDigits bs refl (leading-le bs) q short))
+    (λ q. (refl, first-fault (leading bs + 1) (leading bs) codeLineDigits bs refl (leading-le bs) q short))
     (λ q. others)
 
 -- ---- one record
@@ -112,7 +115,7 @@ record-rules r d rec =
 
 -- behind the type, by what the line is read as, in every state
 read : (r : Record) (p : Phase) (d : Direction) (b : Batch) (n : ℕ) (x y : Totals) (rec : List ℕ) → T (allAlone (rulesAs r (state p d b n x y) rec))
-unfolding table all fieldsOfEach rulesOf fieldsOf within boletoRules rulesOfType rulesAs
+unfolding table all fieldsOfEach rulesOf fieldsOf within boletoRules collectionRules rulesOfType rulesAs
 read r p Remittance b n x y rec = each (λ r. allAlone (rulesAs r (state p Remittance b n x y) rec)) tt r
 read r p Return b n x y rec = each (λ r. allAlone (rulesAs r (state p Return b n x y) rec)) tt r
 
@@ -130,28 +133,37 @@ line-rules s line =
 
 -- ---- digit strings
 
--- the length, the digits and the currency, then others
-head-rules : (n : ℕ) (bs : List ℕ) (others : List Rule) → n ≤ lineDigits → T (allAlone others) → Only Alone (boleto.headRules n bs ++ others)
-unfolding boleto.headRules table
-head-rules n bs others few t =
+-- the length and the digits, then others
+string-rules : (n : ℕ) (bs : List ℕ) (others : List Rule) → n ≤ codeLineDigits → T (allAlone others) → Only Alone (stringRules n bs ++ others)
+unfolding table
+string-rules n bs others few t =
     first (rule 40 0 (eqb (length bs) n))
     (λ q. (refl, tt))
-    (λ q. digits bs (omega (arith, eqb-true (length bs) n q)) (more (refl, tt) (tested others t)))
+    (λ q. digits bs (omega (arith, eqb-true (length bs) n q)) (tested others t))
 
 -- the rules of a barcode, and of a digit line
 pub barcode-rules : (bar : List ℕ) → Only Alone (boleto.barcodeRules bar)
-unfolding boleto.barcodeRules table
-barcode-rules bar = head-rules barcodeDigits bar _ (lit≤ tt) tt
+unfolding boleto.barcodeRules boleto.headRules table
+barcode-rules bar = string-rules barcodeDigits bar _ (lit≤ tt) tt
 
 pub digit-line-rules : (line : List ℕ) → Only Alone (boleto.digitLineRules line)
-unfolding boleto.digitLineRules boleto.checkRules table
-digit-line-rules line = head-rules lineDigits line _ (lit≤ tt) tt
+unfolding boleto.digitLineRules boleto.headRules boleto.checkRules table
+digit-line-rules line = string-rules lineDigits line _ (lit≤ tt) tt
+
+-- of a collection code, and of its line
+pub code-rules : (code : List ℕ) → Only Alone (codeRules code)
+unfolding codeRules codeHeadRules table
+code-rules code = string-rules codeDigits code _ (lit≤ tt) tt
+
+pub code-line-rules : (line : List ℕ) → Only Alone (codeLineRules line)
+unfolding codeLineRules codeHeadRules blockRules table
+code-line-rules line = string-rules codeLineDigits line _ (lit≤ tt) tt
 
 -- ---- a call of the writer
 
 -- all fields of a record, and what the house asks
 given : (r : Record) (d : Direction) (rec : List ℕ) → T (allAlone (rulesOf (fieldsOf r) d rec ++ houseRules r rec))
-unfolding table all fieldsOfEach rulesOf fieldsOf boletoRules
+unfolding table all fieldsOfEach rulesOf fieldsOf boletoRules collectionRules
 given r Remittance rec = each (λ r. allAlone (rulesOf (fieldsOf r) Remittance rec ++ houseRules r rec)) tt r
 given r Return rec = each (λ r. allAlone (rulesOf (fieldsOf r) Return rec ++ houseRules r rec)) tt r
 

@@ -22,10 +22,19 @@ same-length-3 c =
 
 same-length-4 : tie.Need-same-length-4
 same-length-4 c =
-    let boletos = c .before .before .before .before .before .before .before .before in
+    let bills = c .before .before in
+    let boletos = bills .before .before .before .before .before .before .before .before .before in
     let credits = boletos .before .before .before .before .before .before .before .before .before in
     let opened = credits .before .before .before .before .before .before .before .before .before in
-    c .before .out4 .given ∙ boletos .before .out3 .given ∙ credits .before .out2 .given ∙ opened .before .out .given
+    bills .before .out4 .given ∙ boletos .before .out3 .given ∙ credits .before .out2 .given ∙ opened .before .out .given
+
+same-length-5 : tie.Need-same-length-5
+same-length-5 c =
+    let bills = c .before .before .before .before .before .before .before .before in
+    let boletos = bills .before .before .before .before .before .before .before .before .before in
+    let credits = boletos .before .before .before .before .before .before .before .before .before in
+    let opened = credits .before .before .before .before .before .before .before .before .before in
+    c .before .out5 .given ∙ bills .before .out4 .given ∙ boletos .before .out3 .given ∙ credits .before .out2 .given ∙ opened .before .out .given
 
 pub write-file-spec : {M : Type 1} → statement M
 write-file-spec =
@@ -51,5 +60,11 @@ write-file-spec =
     (λ c. search needs)
     (λ c κs. search needs)
     (λ c κs. search needs)
+    (λ c κs. search needs)
+    (λ c κs. search needs)
     same-length-4
+    (λ c. search needs)
+    (λ c κs. search needs)
+    (λ c κs. search needs)
+    same-length-5
     (λ c. search needs))

@@ -9,7 +9,7 @@ use Rattle.answer.specs.Rules.{firstBroken}
 use Rattle.answer.specs.declared.Answer.the-variants.{Accepted}
 use Rattle.digits.specs.Digits.{digitByte}
 use Rattle.digits.specs.laws.Strings.{tab}
-use Rattle.layout.specs.Field.{Kind, N, NOrBlank, Id, T, F, D, Time, K, O, Zeros, Exact, OneOf, Service, Form, Barcode, RecordType, Segment, Field, none}
+use Rattle.layout.specs.Field.{Kind, N, NOrBlank, Id, T, F, D, Time, K, O, Zeros, Exact, OneOf, Service, Form, Barcode, Code, RecordType, Segment, Field, none}
 use Rattle.layout.specs.Table.{all}
 use Rattle.layout.specs.Kinds.{blank, same}
 use Rattle.layout.specs.Record.{fieldRules}
@@ -71,6 +71,7 @@ maskOf (OneOf domain) = domainMask domain
 maskOf Service = free false
 maskOf Form = free true
 maskOf Barcode = digits false
+maskOf Code = digits true
 maskOf (RecordType b) = exactly (b ∷ [])
 maskOf (Segment b) = exactly (b ∷ [])
 

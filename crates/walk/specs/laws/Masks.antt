@@ -20,7 +20,7 @@ use Rattle.digits.specs.laws.Tests.{every, every-at, so}
 use Rattle.ids.specs.laws.Fields.{digits-fit}
 use Rattle.layout.specs.inner.Lent.{startOf, kindCount, whole?, mark?, firstLetter, kindOf, mayBe}
 use Rattle.layout.specs.Pairs.{among}
-use Rattle.layout.specs.Field.{Kind, N, NOrBlank, Id, T as Text, F, D, Time, K, O, Zeros, Exact, OneOf, Service, Form, Barcode, RecordType, Segment, Field, none}
+use Rattle.layout.specs.Field.{Kind, N, NOrBlank, Id, T as Text, F, D, Time, K, O, Zeros, Exact, OneOf, Service, Form, Barcode, Code, RecordType, Segment, Field, none}
 use Rattle.layout.specs.Table.{fieldsOf, recordBytes, tiles, all}
 use Rattle.layout.specs.Kinds.{aPart, registrationAt, means, same, oneOf, blank}
 use Rattle.walk.specs.inner.Masks.{bytesFrom, maskOf, domainMask, highestIn, between, free, lowsOf, highsOf, within, Right}
@@ -126,6 +126,7 @@ module _ (d : Direction) (place : ℕ) (bs whole : List ℕ) where
   kind-kept Service m b e = cc
   kind-kept Form m b e = sym done
   kind-kept Barcode m b e = cc
+  kind-kept Code m b e = kept 8 (digits-kept b)
   kind-kept (RecordType x) m b e = kept 6 (exact-kept (x ∷ []) m b)
   kind-kept (Segment x) m b e = kept 11 (exact-kept (x ∷ []) m b)
 

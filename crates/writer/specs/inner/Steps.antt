@@ -23,7 +23,7 @@ use Rattle.checker.specs.Machine.{lineOf, sound, mostDetails}
 use Rattle.checker.specs.laws.Edges.{Follows}
 use Rattle.checker.specs.laws.Details.{Limit}
 use Rattle.checker.specs.declared.Checker.{Checker}
-use Rattle.writer.specs.Given.{recordsIn}
+use Rattle.writer.specs.Given.{firstIn, recordsIn}
 use Rattle.filling.specs.Filling.{filled}
 use Rattle.writer.specs.Refusals.{turnRule, turns, sumRule, positions, expectedInPayment, expectedNow, givenOnLine, nextBy, allGiven, held}
 use Rattle.writer.specs.Outcome.{linesFor, behindAll, cursorBehind, stateAfter, outputAfter}
@@ -71,7 +71,7 @@ pub data AllRight : List Made → Type 0 where
 
 -- the record of a payment at a position, from 0 on
 abbrev pub nthIn : ℕ → Payment → Fields
-nthIn k p = getD (p .first ∷ p .second ∷ p .third ∷ []) k (p .third)
+nthIn k p = getD (firstIn p ∷ p .second ∷ p .third ∷ []) k (p .third)
 
 -- and whether it is the one that is expected there
 abbrev pub expectedAt : ℕ → Direction → Batch → Record → Bool

@@ -15,12 +15,12 @@ use Rattle.digits.specs.Numbers.{numberOf, value}
 use Rattle.digits.specs.declared.spelling.Number.the-variants.{Is}
 use Rattle.digits.specs.laws.Strings.{one-place}
 use Rattle.digits.specs.laws.Numerals.{digit-told, given as digits-of}
-use Rattle.layout.specs.Records.{creditAmount, boletoAmount}
+use Rattle.layout.specs.Records.{creditAmount, boletoAmount, collectionAmount}
 use Rattle.layout.specs.Field.{Field, part}
 use Rattle.layout.specs.Table.{fieldsOf, recordBytes, movementField}
 use Rattle.layout.specs.Names.{before, indexOf}
 use Rattle.layout.specs.declared.Record.{Record}
-use Rattle.layout.specs.declared.Record.the-variants.{SegmentA, SegmentJ}
+use Rattle.layout.specs.declared.Record.the-variants.{SegmentA, SegmentJ, SegmentO}
 use Rattle.layout.specs.laws.Records.{by-amount}
 use Rattle.fields.specs.Values.{ofRecord, nth, orZero}
 use Rattle.fields.specs.declared.Fields.{Fields}
@@ -28,7 +28,7 @@ use Rattle.checker.specs.Totals.{tally, bare, none, add, centSum, withdrawal, w
 use Rattle.checker.specs.laws.Sums.{both-parts, InAll, same-totals, add-none, add-assoc, counted, next-counts}
 use Rattle.checker.specs.declared.totals.Totals.{Totals}
 use Rattle.checker.specs.declared.Checker.{Checker}
-use Rattle.writer.specs.Given.{Call, openFile, openBatch, pay, closeBatch, closeFile, recordsIn, recordsOf, amountOf, amountIn, withdrawsAs, isWithdrawn, onePayment}
+use Rattle.writer.specs.Given.{Call, openFile, openBatch, pay, closeBatch, closeFile, firstIn, recordsIn, recordsOf, amountOf, amountIn, withdrawsAs, isWithdrawn, onePayment}
 use Rattle.filling.specs.Filling.{bytesOf}
 use Rattle.writer.specs.Refusals.{expectedInPayment, expectedIn, centsSoFar, sumRules}
 use Rattle.writer.specs.inner.Steps.{expectedAt}
@@ -58,6 +58,10 @@ amount-in-j : GivenAt SegmentJ boletoAmount
 unfolding fieldsOf indexOf before
 amount-in-j = record { stands = stands-at _ _ (lit≤ tt) refl; number = refl; unfilled = λ s. refl }
 
+amount-in-o : GivenAt SegmentO collectionAmount
+unfolding fieldsOf indexOf before
+amount-in-o = record { stands = stands-at _ _ (lit≤ tt) refl; number = refl; unfilled = λ s. refl }
+
 movement-in-a : GivenAt SegmentA movementField
 unfolding fieldsOf indexOf before
 movement-in-a = record { stands = stands-at _ _ (lit≤ tt) refl; number = refl; unfilled = λ s. refl }
@@ -65,6 +69,10 @@ movement-in-a = record { stands = stands-at _ _ (lit≤ tt) refl; number = refl;
 movement-in-j : GivenAt SegmentJ movementField
 unfolding fieldsOf indexOf before
 movement-in-j = record { stands = stands-at _ _ (lit≤ tt) refl; number = refl; unfilled = λ s. refl }
+
+movement-in-o : GivenAt SegmentO movementField
+unfolding fieldsOf indexOf before
+movement-in-o = record { stands = stands-at _ _ (lit≤ tt) refl; number = refl; unfilled = λ s. refl }
 
 -- the byte says withdrawn exactly if the number that it is read as does
 told : (rec : List ℕ) (n : ℕ) → length rec ≡ recordBytes → numberOf (part movementField rec) ≡ Is n → withdraws rec ≡ eqb n withdrawal
@@ -84,7 +92,8 @@ AmountIs r = (expected : List Record) (s : Checker) (v : Fields) → Right expec
 
 pub amount-is : {expected : List Record} {s : Checker} (r : Record) (v : Fields) → Right expected s (ofRecord r v) → centsOf r (bytesOf s (ofRecord r v)) ≡ amountOf r v
 amount-is {expected} {s} r v t =
-    by-amount AmountIs (λ r e expected s v t. rw e) (λ expected s v t. same-amount v t amount-in-a) (λ expected s v t. same-amount v t amount-in-j) r expected s v t
+    by-amount AmountIs (λ r e expected s v t. rw e) (λ expected s v t. same-amount v t amount-in-a) (λ expected s v t. same-amount v t amount-in-j)
+    (λ expected s v t. same-amount v t amount-in-o) r expected s v t
 
 -- and a line counts what its record was given to count
 abbrev CountsIs : Record → Type 0
@@ -93,7 +102,8 @@ CountsIs r = (expected : List Record) (s : Checker) (v : Fields) → Right expec
 counts-is : {expected : List Record} {s : Checker} (r : Record) (v : Fields) → Right expected s (ofRecord r v) → counts r (bytesOf s (ofRecord r v)) ≡ countsAs r v
 counts-is {expected} {s} r v t =
     by-amount CountsIs (λ r e expected s v t. rw e) (λ expected s v t. ap₂ (onePayment 1) (same-movement v t movement-in-a) (same-amount v t amount-in-a))
-    (λ expected s v t. ap₂ (onePayment 1) (same-movement v t movement-in-j) (same-amount v t amount-in-j)) r expected s v t
+    (λ expected s v t. ap₂ (onePayment 1) (same-movement v t movement-in-j) (same-amount v t amount-in-j))
+    (λ expected s v t. ap₂ (onePayment 1) (same-movement v t movement-in-o) (same-amount v t amount-in-o)) r expected s v t
 
 -- ---- records one behind the other
 
@@ -141,7 +151,7 @@ call-counted w c out whole e = all-counted rs ∙ ap (add (counted s)) (puts c r
     puts : (c : Call) → Rights (expectedIn c s) s (recordsOf c) → countsAll (recordsOf c) ≡ putBy c
     puts (openFile v) rs = add-none _
     puts (openBatch v) rs = add-none _
-    puts (pay p) rs = subst (λ (gs : List Fields). Rights (expectedInPayment s) s gs → countsAll gs ≡ onePayment (length gs) (isWithdrawn p) (amountIn p)) (sym (begins-with p)) (payment-counts s (p .first) (drop 1 (recordsIn p))) rs
+    puts (pay p) rs = subst (λ (gs : List Fields). Rights (expectedInPayment s) s gs → countsAll gs ≡ onePayment (length gs) (isWithdrawn p) (amountIn p)) (sym (begins-with p)) (payment-counts s (firstIn p) (drop 1 (recordsIn p))) rs
     puts (closeBatch v) rs = add-none _
     puts (closeFile v) rs = add-none _
 

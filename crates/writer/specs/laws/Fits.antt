@@ -38,7 +38,7 @@ use Rattle.checker.specs.declared.totals.Totals.{Totals}
 use Rattle.checker.specs.declared.Checker.{Checker}
 use Rattle.writer.specs.Given.{Call, openFile, openBatch, pay, closeBatch, closeFile, recordsIn, recordsOf}
 use Rattle.filling.specs.Filling.{bytesOf}
-use Rattle.writer.specs.Refusals.{turns, recordsSoFar, kindGiven, leastDetails, trailers, turnLimits, expectedIn, nextBy}
+use Rattle.writer.specs.Refusals.{turns, recordsSoFar, kindGiven, leastDetails, trailers, turnLimits, expectedInPayment, expectedIn, nextBy, allGiven}
 use Rattle.writer.specs.Outcome.{newWriter, behindAll, stateAfter, answerOf}
 use Rattle.writer.specs.Calls.{AllWhole, Lent, WholeCalls, no-call, and-call, putBy, stateBehind, left, lent}
 use Rattle.writer.specs.laws.Sound.{as-held}
@@ -81,8 +81,8 @@ end-reserve : {d : Direction} {b : Batch} {p : Phase} → Follows d b p FileTrai
 end-reserve (pays x g) = absurd (omega (arith, row g .type))
 end-reserve ends = refl
 
-paid-reserve : (s : Checker) (p : Payment) (b : Batch) → reserve (phaseBy s (pay p)) b ≡ trailers
-paid-reserve s p b = ⊎-elim (λ q. rw q) (λ q. rw q) (paid-phase s p)
+paid-reserve : (s : Checker) (p : Payment) (b : Batch) → AllKept (allGiven (expectedInPayment s) s (recordsIn p)) → reserve (phaseBy s (pay p)) b ≡ trailers
+paid-reserve s p b k = ⊎-elim (λ q. rw q) (λ q. rw q) (paid-phase s p k)
 
 -- the kind of batch that a call leaves open: a header opens the one that it is given
 abbrev Opens : Call → Checker → Batch → Type 0
@@ -100,14 +100,14 @@ opens s (pay p) rs = tt
 opens s (closeBatch v) rs = tt
 opens s (closeFile v) rs = tt
 
-turn-room : (c : Call) (s : Checker) (b : Batch) → AllKept (turnLimits c s) → Opens c s b → Roomy s
+turn-room : (c : Call) (s : Checker) (b : Batch) → AllKept (turnLimits c s) → AllKept (allGiven (expectedIn c s) s (recordsOf c)) → Opens c s b → Roomy s
     → recordsSoFar s + putBy c .records .0 + reserve (phaseBy s c) b ≤ mostRecords
 unfolding AllKept
-turn-room (openFile v) s b k q h = omega (arith, header-reserve (in-turn (s .phase) (s .dir) (s .batch) .header (k .0)))
-turn-room (openBatch v) s b k q h = rw q (omega (arith, leb-true (recordsSoFar s + (1 + leastDetails (kindGiven (s .dir) (takenAs BatchHeader v)) + trailers)) mostRecords (k .1 .1 .0)))
-turn-room (pay p) s b k q h = omega (arith, leb-true (recordsSoFar s + (length (recordsIn p) + trailers)) mostRecords (k .1 .1 .0), paid-reserve s p b)
-turn-room (closeBatch v) s b k q h = omega (arith, trailer-reserve (in-turn (s .phase) (s .dir) (s .batch) .trailer (k .0)))
-turn-room (closeFile v) s b k q h = omega (arith, end-reserve (in-turn (s .phase) (s .dir) (s .batch) .end (k .0)))
+turn-room (openFile v) s b k rs q h = omega (arith, header-reserve (in-turn (s .phase) (s .dir) (s .batch) .header (k .0)))
+turn-room (openBatch v) s b k rs q h = rw q (omega (arith, leb-true (recordsSoFar s + (1 + leastDetails (kindGiven (s .dir) (takenAs BatchHeader v)) + trailers)) mostRecords (k .1 .1 .0)))
+turn-room (pay p) s b k rs q h = omega (arith, leb-true (recordsSoFar s + (length (recordsIn p) + trailers)) mostRecords (k .1 .1 .0), paid-reserve s p b rs)
+turn-room (closeBatch v) s b k rs q h = omega (arith, trailer-reserve (in-turn (s .phase) (s .dir) (s .batch) .trailer (k .0)))
+turn-room (closeFile v) s b k rs q h = omega (arith, end-reserve (in-turn (s .phase) (s .dir) (s .batch) .end (k .0)))
 
 call-roomy : (w : Writer) (c : Call) (out : List ℕ) → AllWhole (recordsOf c) → Roomy (w .checker) → Roomy (stateBehind w (lent c out) .checker)
 unfolding add
@@ -119,7 +119,7 @@ call-roomy w c out whole h = go (answerOf w c out) refl
         let phase : behindAll (w .checker) (recordsOf c) .phase ≡ phaseBy (w .checker) c = rw e at (phase-after w c out e) in
         let k = kept w c out e in
         let open-now = opens (w .checker) c (rights (expectedIn c (w .checker)) (w .checker) whole (k .records)) in
-        rw phase (omega (arith, turn-room c (w .checker) (behindAll (w .checker) (recordsOf c) .batch) (k .first) open-now h))
+        rw phase (omega (arith, turn-room c (w .checker) (behindAll (w .checker) (recordsOf c) .batch) (k .first) (k .records) open-now h))
     go (Refused r) e = h
 
 calls-roomy : (w : Writer) {ls : List Lent} → WholeCalls ls → Roomy (w .checker) → Roomy (left w ls .checker)

@@ -3,6 +3,7 @@ use mathlib.Core.Path.{_≡_, refl, sym}
 use mathlib.Core.List.{List}
 use Prim.Native.Nat.{_≤_}
 use native.Mathlib.Omega.{arith}
+use borrow.Author.Tests.{lt-ltb, le-ltb}
 use lib.Dec.{lit≤}
 use lib.ListN.{length}
 use Rattle.layout.specs.Pairs.{batchOf}
@@ -13,10 +14,10 @@ use Rattle.layout.specs.laws.Bytes.{batch-is}
 use Rattle.layout.specs.declared.Record.{Record}
 use Rattle.layout.specs.declared.Record.the-variants.{BatchHeader}
 use Rattle.layout.specs.declared.pairs.Batch.{Batch}
-use Rattle.layout.specs.declared.pairs.Batch.the-variants.{Credit, Boleto, Unknown}
 use Rattle.fields.specs.Values.{ofRecord}
 use Rattle.fields.specs.declared.Fields.{Fields}
 use Rattle.checker.specs.Order.{payment}
+use Rattle.checker.specs.laws.Payments.{known-paid}
 use Rattle.checker.specs.declared.Checker.{Checker}
 use Rattle.filling.specs.Filling.{bytesOf}
 use Rattle.writer.specs.Refusals.{kindGiven, leastDetails}
@@ -38,13 +39,9 @@ kind-is {s = s} v t =
     let g = ofRecord BatchHeader v in
     sym (batch-is (s .dir) (part serviceField (bytesOf s g)) (part formField (bytesOf s g)) (sym (read-given v (t .well) service-given)) (sym (read-given v (t .well) form-given)))
 
--- a kind that is known has a payment, and no other has
+-- the least details of a kind that has a payment, and of the other
 pub least-named : (b : Batch) → 1 ≤ length (payment b) → length (payment b) ≡ leastDetails b
-least-named Credit h = refl
-least-named Boleto h = refl
-least-named Unknown h = absurd (omega arith)
+least-named b h = rw (known-paid b, lt-ltb 0 (length (payment b)) h)
 
 pub least-unnamed : (b : Batch) → length (payment b) ≡ 0 → 2 ≡ leastDetails b
-least-unnamed Credit h = absurd (omega arith)
-least-unnamed Boleto h = absurd (omega arith)
-least-unnamed Unknown h = refl
+least-unnamed b h = rw (known-paid b, le-ltb 0 (length (payment b)) (omega arith))

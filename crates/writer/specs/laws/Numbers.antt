@@ -11,7 +11,7 @@ use Rattle.answer.specs.laws.Only.{Only, none, more, past, join, broken-so}
 use Rattle.answer.specs.declared.LineNo.{LineNo}
 use Rattle.answer.specs.declared.Refusal.{Refusal}
 use Rattle.answer.specs.declared.Answer.the-variants.{Refused}
-use Rattle.layout.specs.Field.{Kind, N, NOrBlank, Id, T as Text, F, D, Time, K, O, Zeros, Exact, OneOf, Service, Form, Barcode, RecordType, Segment, Field, part, none as no-field}
+use Rattle.layout.specs.Field.{Kind, N, NOrBlank, Id, T as Text, F, D, Time, K, O, Zeros, Exact, OneOf, Service, Form, Barcode, Code, RecordType, Segment, Field, part, none as no-field}
 use Rattle.layout.specs.Table.{fieldsOf}
 use Rattle.layout.specs.Records.{shapeOf, isOneOf}
 use Rattle.layout.specs.Kinds.{Part, means, same, blankIn}
@@ -21,12 +21,12 @@ use Rattle.layout.specs.declared.Direction.{Direction}
 use Rattle.layout.specs.declared.Direction.the-variants.{Remittance, Return}
 use Rattle.layout.specs.declared.Record.{Record}
 use Rattle.layout.specs.declared.shapes.House.{House}
-use Rattle.layout.specs.declared.shapes.House.the-variants.{NoRules, RulesOfJ, OneId, ThreeIds}
+use Rattle.layout.specs.declared.shapes.House.the-variants.{NoRules, RulesOfJ, OneId, ThreeIds, RulesOfO}
 use Rattle.fields.specs.Values.{heldAs, nth, rendered}
 use Rattle.digits.specs.declared.spelling.Number.{Number}
 use Rattle.fields.specs.laws.Parts.{holds}
 use Rattle.fields.specs.declared.Fields.{Fields}
-use Rattle.checker.specs.Line.{houseBy, boletoRules}
+use Rattle.checker.specs.Line.{houseBy, boletoRules, collectionRules}
 use Rattle.checker.specs.Machine.{lineOf}
 use Rattle.checker.specs.declared.Checker.{Checker}
 use Rattle.writer.specs.Given.{Call, openFile, openBatch, pay, closeBatch, closeFile, recordsOf}
@@ -39,9 +39,9 @@ use Rattle.writer.specs.declared.Writer.{Writer}
 use Rattle.writer.specs.laws.Lines.{full-text}
 use Rattle.writer.specs.laws.Answers.{call-refused}
 
--- 4, 8, 11 to 20, 23, 25, 26, 50 and 51
+-- 4, 8, 11 to 20, 23, 25, 26, 50 to 53 and 55
 abbrev pub writes : ℕ → Bool
-writes n = eqb n 4 || (eqb n 8 || ((leb 11 n && leb n 20) || (eqb n 23 || ((leb 25 n && leb n 26) || (leb 50 n && leb n 51)))))
+writes n = eqb n 4 || (eqb n 8 || ((leb 11 n && leb n 20) || (eqb n 23 || ((leb 25 n && leb n 26) || ((leb 50 n && leb n 53) || eqb n 55)))))
 
 -- each rule names such a number, or is kept
 abbrev Writes : List Rule → Type 0
@@ -74,6 +74,7 @@ kind (OneOf domain) p n text e = one refl
 kind Service p n text e = one refl
 kind Form p n text e = none
 kind Barcode p n text e = more refl (one refl)
+kind Code p n text e = one refl
 kind (RecordType b) p n text e = past (ap (same (b ∷ [])) e ∙ same-self (b ∷ [])) none
 kind (Segment b) p n text e = one refl
 
@@ -87,11 +88,12 @@ fields (f ∷ fs) d rec n text h =
     (fields fs d rec (λ j. n (suc j)) text (λ j l. h (suc j) (suc-le-suc l)))
 
 house : (h : House) (rec : List ℕ) → Writes (houseBy h rec)
-unfolding boletoRules
+unfolding boletoRules collectionRules
 house NoRules rec = none
 house RulesOfJ rec = more refl (more refl (more refl (one refl)))
 house OneId rec = one refl
 house ThreeIds rec = more refl (more refl (one refl))
+house RulesOfO rec = more refl (more refl (one refl))
 
 given : (expected : Bool) (s : Checker) (g : Fields) → Whole g → Writes (givenRules expected (g .which) (s .dir) (bytesOf s g))
 unfolding givenRules

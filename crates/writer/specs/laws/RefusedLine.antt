@@ -21,7 +21,7 @@ use Rattle.writer.specs.Given.{Call, openFile, openBatch, pay, closeBatc
 use Rattle.filling.specs.Filling.{bytesOf}
 use Rattle.writer.specs.Refusals.{turnLimits, expectedIn, expectedNow, givenRules, nextBy, allGiven, lastRules, held, callRules}
 use Rattle.writer.specs.Outcome.{answerOf}
-use Rattle.writer.specs.laws.Given.{enough}
+use Rattle.writer.specs.laws.Given.{some-few}
 use Rattle.writer.specs.declared.Writer.{Writer}
 use Rattle.writer.specs.laws.Answers.{call-refused}
 
@@ -50,7 +50,7 @@ module _ (low end : ℕ) where
 some : (c : Call) → 0 < length (recordsOf c)
 some (openFile v) = suc-le-suc zero-le
 some (openBatch v) = suc-le-suc zero-le
-some (pay p) = omega (arith, enough p)
+some (pay p) = omega (arith, some-few p)
 some (closeBatch v) = suc-le-suc zero-le
 some (closeFile v) = suc-le-suc zero-le
 

@@ -16,6 +16,9 @@ returns-3 c = rw (c .before .enum-told3 .given .1) (c .check-id .ensures)
 returns-4 : tie.Need-returns-4
 returns-4 c = rw (c .before .enum-told4 .given .1) (c .check-three-ids .ensures)
 
+returns-5 : tie.Need-returns-5
+returns-5 c = rw (c .before .enum-told5 .given .1) (c .check-collection .ensures)
+
 pub check-house-spec : {M : Type 1} → statement M
 check-house-spec =
     tie.close
@@ -27,7 +30,10 @@ check-house-spec =
     (λ c κs. search needs)
     (λ c. search needs)
     (λ c κs. search needs)
+    (λ c. search needs)
+    (λ c κs. search needs)
     returns
     returns-2
     returns-3
-    returns-4)
+    returns-4
+    returns-5)

@@ -12,10 +12,10 @@ use Rattle.layout.specs.declared.shapes.Shape.{Shape}
 use Rattle.layout.proofs.table.span_of.Statement.{statement}
 use Rattle.layout.proofs.table.span_of.Tie as tie
 
-below : (r : Record) {s : Shape} → s ≡ shapeOf r → s .code < 9
+below : (r : Record) {s : Shape} → s ≡ shapeOf r → s .code < 10
 below r e = rw e (tabled r .below)
 
-under : (c : tie.After-shape-of) → c .shape-of .result .code < 9
+under : (c : tie.After-shape-of) → c .shape-of .result .code < 10
 under c = below (c .before .args .which) (c .shape-of .ensures)
 
 returns : tie.Need-returns

@@ -16,6 +16,9 @@ returns-3 : tie.Need-returns-3
 returns-3 c =
     c .refused .ensures ∙ here _ _ _ _ (ap known (sym (c .before .before .before .batch-of .ensures) ∙ c .before .enum-told3 .given .1))
 
+returns-4 : tie.Need-returns-4
+returns-4 c = past _ _ _ _ _ (ap known (sym (c .before .before .batch-of .ensures) ∙ c .enum-told4 .given .1)) done
+
 pub pair-spec : {M : Type 1} → statement M
 pair-spec =
     tie.close
@@ -32,6 +35,8 @@ pair-spec =
     (λ c. search needs)
     (λ c. search needs)
     (λ c κs. search needs)
+    (λ c. search needs)
     returns
     returns-2
-    returns-3)
+    returns-3
+    returns-4)

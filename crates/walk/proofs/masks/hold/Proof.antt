@@ -58,6 +58,14 @@ returns-13 : tie.Need-returns-13
 unfolding fieldsOf lowsOf highsOf same
 returns-13 c = rw (c .before .before .before .enum-told17 .given .1) (c .fits14 .ensures)
 
+returns-14 : tie.Need-returns-14
+unfolding fieldsOf lowsOf highsOf same
+returns-14 c = rw (c .before .before .before .before .before .enum-told18 .given .1, c .before .before .before .enum-told19 .given .1) (c .fits15 .ensures)
+
+returns-15 : tie.Need-returns-15
+unfolding fieldsOf lowsOf highsOf same
+returns-15 c = rw (c .before .before .before .before .before .enum-told18 .given .1, c .before .before .before .enum-told20 .given .1) (c .fits16 .ensures)
+
 pub hold-spec : {M : Type 1} → statement M
 hold-spec =
     tie.close
@@ -92,6 +100,11 @@ hold-spec =
     (λ c κs. search needs)
     (λ c. search needs)
     (λ c κs. search needs)
+    (λ c. search needs)
+    (λ c. search needs)
+    (λ c κs. search needs)
+    (λ c. search needs)
+    (λ c κs. search needs)
     returns
     returns-2
     returns-3
@@ -104,4 +117,6 @@ hold-spec =
     returns-10
     returns-11
     returns-12
-    returns-13)
+    returns-13
+    returns-14
+    returns-15)

@@ -16,12 +16,13 @@ returns c =
     let closed : c .before .before .before .before .before .before .cents .result .0 ≡ centSum (m .closed) = c .before .before .before .before .before .before .cents .ensures ∙ rw (c .before .before .before .before .before .before .before .closed .ensures) (closed-cents-fit bound) in
     let current : c .before .before .before .before .cents2 .result .0 ≡ centSum (m .current) = c .before .before .before .before .cents2 .ensures ∙ rw (c .before .before .before .before .before .current .ensures) (cents-fit bound) in
     let paid : c .before .before .before .plus .result .0 ≡ centSum (m .closed) + centSum (m .current) = c .before .before .before .plus .ensures ∙ rw (closed, current) (fits _ (omega arith)) in
-    rw (c .test .ensures, c .before .fit-a-file .ensures, c .before .before .amount-of .ensures, paid)
+    rw (c .test .ensures, c .before .fit-a-file .ensures, c .before .before .amount-of .ensures, c .before .before .before .before .before .before .before .before .first-record .ensures, paid)
 
 pub check-sum-spec : {M : Type 1} → statement M
 check-sum-spec =
     tie.close
     (tie.spec
+    (λ c κs. search needs)
     (λ c κs. search needs)
     (λ c κs. search needs)
     (λ c κs. search needs)

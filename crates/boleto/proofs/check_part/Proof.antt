@@ -1,13 +1,13 @@
--- `boleto::check_field` meets its contract. Assumes nothing.
+-- `boleto::check_part` meets its contract. Assumes nothing.
 use borrow.Author.Needs.{needs}
-use Rattle.boleto.proofs.check_field.Statement.{statement}
-use Rattle.boleto.proofs.check_field.Tie as tie
+use Rattle.boleto.proofs.check_part.Statement.{statement}
+use Rattle.boleto.proofs.check_part.Tie as tie
 
 returns : tie.Need-returns
 returns c = rw (c .test .ensures, c .before .is-sealed .ensures)
 
-pub check-field-spec : {M : Type 1} → statement M
-check-field-spec =
+pub check-part-spec : {M : Type 1} → statement M
+check-part-spec =
     tie.close
     (tie.spec
     (λ c. search needs)
