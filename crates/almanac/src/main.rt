@@ -3,6 +3,8 @@
 // number of its 31 December and the due factor of its 1 March. Then, of all dates in their order, those
 // whose factor is not the next behind the last date's: day, month, year, the last date's factor and its
 // own. Then how many times HHMMSS there are among all numbers of six digits.
+#![tactic(auto)]
+
 ghost use Rattle.std.specs.Prelude.{◌≤◌};
 
 use calendar::Date;

@@ -2,4 +2,3 @@ pub mod Limits
 pub mod Sums
 pub mod Rules
 pub mod Output
-pub mod laws

@@ -1,5 +1,7 @@
 // What the desk answers: three kinds of quantity that can't be taken for one another, and an
 // acceptance or one refusal.
+#![tactic(auto)]
+
 pub mod numbers;
 
 ghost use Rattle.std.specs.Prelude.{◌≡◌, ◌∷◌, [], ◌+◌, leb, ltb, eqb};
@@ -8,24 +10,24 @@ ghost use Rattle.answer.specs.Output.{room};
 ghost use Rattle.answer.specs.Rules.{rule, refused_as, first_broken, accepts, and_then, on_line};
 ghost use Rattle.answer.specs.Sums.{capped};
 
-#[derive(Drop)]
+#[derive(Clone, Copy)]
 pub struct Cents(pub u64);
 
-#[derive(Drop)]
+#[derive(Clone, Copy)]
 pub struct LineNo(pub u64);
 
-#[derive(Drop)]
+#[derive(Clone, Copy)]
 pub struct RecordCount(pub u64);
 
 // The number and the place stand in the paper's table.
-#[derive(Drop)]
+#[derive(Clone, Copy)]
 pub struct Refusal {
     pub number: u8,
     pub line: LineNo,
     pub place: usize,
 }
 
-#[derive(Drop)]
+#[derive(Clone, Copy)]
 pub enum Answer {
     Accepted,
     Refused(Refusal),

@@ -1,2 +1,3 @@
 -- Laws on plain values, for the proofs of this crate's functions.
 mod Steps
+pub mod laws

@@ -3,7 +3,7 @@ use mathlib.Core.Path.{◌≡◌}
 use mathlib.Core.List.{List, ◌++◌}
 use Prim.Native.Nat.{ℕ, ◌≤◌}
 use lib.ListN.{length, drop}
-use Rattle.digits.specs.laws.Strings.{spelled_out, front}
+use Rattle.digits.proofs.laws.Strings.{spelled_out, front}
 use Rattle.digits.specs.declared.sealing.Modulus.TheVariants.{Ten}
 use Rattle.boleto.specs.Strings.{barcode_digits, line_digits, digit_line_of, barcode_of}
 use Rattle.boleto.specs.Collection.{code_digits, code_line_digits, modulus_of, code_line_of, code_of}

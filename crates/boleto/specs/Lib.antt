@@ -7,5 +7,4 @@ pub mod Collection
 pub mod CollectionRules
 pub mod CollectionGuarded
 pub mod CollectionExamples
-pub mod laws
 pub mod inner

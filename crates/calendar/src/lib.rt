@@ -1,10 +1,12 @@
 // Dates DDMMAAAA, times HHMMSS, day numbers and the due factor.
+#![tactic(auto)]
+
 mod due;
 
 ghost use Rattle.std.specs.Prelude.{◌≡◌, ◌-◌, ◌≤◌, get_or};
 ghost use Rattle.calendar.specs.Calendar.{date_of, leap, february, months, exists, is_time, date_fits, time_fits};
 
-#[derive(Drop)]
+#[derive(Clone, Copy)]
 pub struct Date {
     pub day: u64,
     pub month: u64,

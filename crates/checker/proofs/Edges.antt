@@ -14,8 +14,8 @@ use Rattle.checker.specs.Order.{payment, record_at, reading_of, follows, read_as
 use Rattle.checker.specs.inner.Steps.{is_return, end_as}
 use Rattle.checker.specs.declared.order.Reading.TheVariants.{Line, Nothing}
 use Rattle.layout.specs.declared.shapes.Phase.{Phase}
-use Rattle.checker.specs.laws.Payments.{row}
-use Rattle.checker.specs.laws.Edges.{passed_by}
+use Rattle.checker.proofs.laws.Payments.{row}
+use Rattle.checker.proofs.laws.Edges.{passed_by}
 use Rattle.layout.specs.declared.shapes.Phase.TheVariants.{Start, Headed, Opened, Within, Paid, BehindZ, Closed, Ended}
 
 -- a detail is the one that is expected, of a payment's records

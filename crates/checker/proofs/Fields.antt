@@ -12,7 +12,7 @@ use Rattle.answer.specs.Rules.{Rule, rule, first_broken}
 use Rattle.answer.specs.declared.Refusal.{Refusal}
 use Rattle.answer.specs.declared.Answer.TheVariants.{Accepted, Refused}
 use Rattle.answer.specs.declared.Answer.{Answer}
-use Rattle.answer.specs.laws.Order.{past, gone_on, stopped}
+use Rattle.answer.proofs.laws.Order.{past, gone_on, stopped}
 use Rattle.layout.specs.Table.{own, fields_of, record_bytes, type_place, number_field, segment_place, segment_field, segment_fields, batch_records, file_batches, file_records}
 use Rattle.layout.specs.Kinds.{same}
 use Rattle.layout.specs.Record.{rules_of, some_rules}
@@ -23,8 +23,8 @@ use Rattle.layout.specs.declared.shapes.LineType.TheVariants.{Detail}
 use Rattle.layout.specs.Field.{Field}
 use Rattle.layout.specs.Records.{shape_of, letter_of}
 use Rattle.layout.specs.inner.Lent.{field_count}
-use Rattle.layout.specs.laws.Columns.{all_fields}
-use Rattle.checker.specs.laws.Details.{behind_segment}
+use Rattle.layout.proofs.laws.Columns.{all_fields}
+use Rattle.checker.proofs.laws.Details.{behind_segment}
 use Rattle.checker.specs.Totals.{record_count, payment_count, payments_of}
 use Rattle.checker.specs.Line.{reads, bank, batch_number, ordinal, most_payments, within, behind, between, rules_of_type}
 use Rattle.checker.specs.inner.Steps.{detail_head}

@@ -7,7 +7,7 @@ use lib.ListN.{length}
 use Rattle.answer.specs.Rules.{first_broken, AllKept}
 use Rattle.answer.specs.declared.Refusal.{Refusal}
 use Rattle.answer.specs.declared.Answer.TheVariants.{Accepted, Refused}
-use Rattle.answer.specs.laws.Order.{accepted_kept, gone_on, stopped}
+use Rattle.answer.proofs.laws.Order.{accepted_kept, gone_on, stopped}
 use Rattle.checker.specs.Line.{line_bytes, record_in, type_rules, line_rules, rules_of_line}
 use Rattle.checker.specs.inner.Steps.{front_rules}
 use Rattle.checker.specs.declared.Checker.{Checker}

@@ -2,3 +2,4 @@
 mod Edges
 mod Fields
 mod Length
+pub mod laws

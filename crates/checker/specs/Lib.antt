@@ -3,5 +3,4 @@ pub mod Totals
 pub mod Line
 pub mod Machine
 pub mod Calls
-pub mod laws
 pub mod inner

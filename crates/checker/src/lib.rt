@@ -1,4 +1,6 @@
 // The line machine: a checker's state by value, and its step over a line.
+#![tactic(auto)]
+
 mod boletos;
 mod collections;
 mod house;
@@ -26,7 +28,7 @@ pub const LINE_BYTES: usize = 242;
 
 // What the closed batches count, with the file's own lines, and what the open batch counts. Line
 // numbers are derived from these.
-#[derive(Drop)]
+#[derive(Clone, Copy)]
 pub struct Checker {
     phase: Phase,
     dir: Direction,
@@ -36,7 +38,7 @@ pub struct Checker {
     current: Totals,
 }
 
-#[derive(Drop)]
+#[derive(Clone, Copy)]
 pub struct Stepped {
     pub state: Checker,
     pub answer: Answer,

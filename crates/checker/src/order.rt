@@ -7,7 +7,7 @@ ghost use Rattle.checker.specs.declared.order.Reading.TheVariants.{Line, Nothing
 use layout::{Batch, Direction, Phase, Record};
 
 // What a line is read as; nothing where its type is not allowed.
-#[derive(Drop)]
+#[derive(Clone, Copy)]
 pub enum Reading {
     Line(Record),
     Nothing,

@@ -12,20 +12,20 @@ use answer::{Cents, RecordCount};
 use layout::{Amount, LineType, Shape, places};
 
 // Payments, and the sum of their amounts.
-#[derive(Drop)]
+#[derive(Clone, Copy)]
 pub struct Tally {
     pub(crate) payments: u64,
     pub(crate) cents: Cents,
 }
 
 // Those of the live payments, and those of the withdrawn ones, each a type of its own.
-#[derive(Drop)]
+#[derive(Clone, Copy)]
 pub struct Live(pub(crate) Tally);
 
-#[derive(Drop)]
+#[derive(Clone, Copy)]
 pub struct Withdrawn(pub(crate) Tally);
 
-#[derive(Drop)]
+#[derive(Clone, Copy)]
 pub struct Totals {
     pub(crate) batches: u64,
     pub(crate) records: RecordCount,

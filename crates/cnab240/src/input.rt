@@ -7,7 +7,7 @@ use libc::STDIN_FILENO;
 // 270 lines: where each read fills it, as of a file on disk, no line lies in two parts.
 pub(crate) const BUFFER_BYTES: usize = 65340;
 
-#[derive(Drop)]
+#[derive(Clone, Copy)]
 pub(crate) enum Input {
     // So many bytes of the buffer.
     Part(usize),

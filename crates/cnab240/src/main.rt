@@ -1,6 +1,8 @@
 // Checks the file on standard input and prints one line: `OK batches records payments cents payments
 // cents`, the live payments before the withdrawn ones, or `NO number line place`. Every rule stands in
 // the library; here the input is read, part by part as it comes, and the answer printed.
+#![tactic(auto)]
+
 mod input;
 
 use files::Incoming;

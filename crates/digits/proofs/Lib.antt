@@ -2,3 +2,4 @@
 mod Small
 mod Over
 mod Printed
+pub mod laws

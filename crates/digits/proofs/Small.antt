@@ -5,7 +5,7 @@ use Rattle.digits.specs.Checks.{base, weight, counts, lift, check_digit, sealed,
 use Rattle.digits.specs.inner.Steps.{most_value, most_count}
 use Rattle.digits.specs.declared.sealing.Modulus.{Modulus}
 use Rattle.digits.specs.declared.sealing.Modulus.TheVariants.{Ten, Eleven, PlainEleven, LongEleven}
-use Rattle.digits.specs.laws.Tests.{every, every_at}
+use Rattle.digits.proofs.laws.Tests.{every, every_at}
 
 -- where no byte stands, no check digit does
 pub unsealed : (m : Modulus) (p : ℕ) (bs : List ℕ) → place p bs ≡ 0 → sealed m p bs ≡ false

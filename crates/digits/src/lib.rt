@@ -1,4 +1,6 @@
 // Digit strings, and strings of digits and capital letters: the numbers they spell, and their check digits.
+#![tactic(auto)]
+
 mod sealing;
 mod spelling;
 

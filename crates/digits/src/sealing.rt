@@ -10,7 +10,7 @@ use super::{character_of, digit_of};
 // PlainEleven: the same, over digits and capital letters, with check digit 0 for remainder 0 or 1;
 // for a CNPJ, and for a collection code by modulus 11.
 // LongEleven: weights 2 to 11, repeating, over digits, with check digit 0 for remainder 0 or 1.
-#[derive(Drop)]
+#[derive(Clone, Copy)]
 pub enum Modulus {
     Ten,
     Eleven,

@@ -11,7 +11,7 @@ const MOST_DIGITS: usize = 19;
 // Stands where a number has more digits than its width: printable and no digit.
 const STAR: u8 = b'*';
 
-#[derive(Drop)]
+#[derive(Clone, Copy)]
 pub enum Number {
     Is(u64),
     Not,

@@ -7,7 +7,7 @@ use lib.Dec.{T}
 use Rattle.layout.specs.inner.Lent.{kind_of, content_of, fill_of, may_be}
 use Rattle.layout.specs.Field.{Kind}
 use Rattle.layout.specs.Kinds.{Presence, a_number, as_bytes, as_fixed, means}
-use Rattle.layout.specs.laws.Contents.{Filled, a-number, its_text, fixed, filled}
+use Rattle.layout.proofs.laws.Contents.{Filled, a-number, its_text, fixed, filled}
 use Rattle.layout.specs.declared.fixed.Content.{Content}
 use Rattle.layout.specs.declared.kinds.Fill.{Fill}
 use Rattle.layout.specs.declared.kinds.Fill.TheVariants.{Number, Text, Fixed}

@@ -3,3 +3,4 @@ mod Fills
 mod Store
 mod Put
 mod Making
+pub mod laws

@@ -7,7 +7,7 @@ use borrow.Author.Tests.{leb-true}
 use lib.ListN.{length, drop, length-append, length-drop}
 use Rattle.answer.specs.Rules.{first_broken, AllKept, and_then}
 use Rattle.answer.specs.Output.{Writes, room}
-use Rattle.answer.specs.laws.Order.{accepted_kept, first_append, never_refused}
+use Rattle.answer.proofs.laws.Order.{accepted_kept, first_append, never_refused}
 use Rattle.answer.specs.declared.Refusal.{Refusal}
 use Rattle.answer.specs.declared.Answer.{Answer}
 use Rattle.answer.specs.declared.Answer.TheVariants.{Accepted, Refused}

@@ -16,13 +16,15 @@ use Rattle.layout.specs.inner.Lent.{kind_of, field_count}
 use Rattle.layout.specs.Field.{Field, field, part, none}
 use Rattle.layout.specs.Table.{fields_of, record_bytes, tiles, all}
 use Rattle.layout.specs.Kinds.{means}
-use Rattle.layout.specs.laws.Tiling.{tiled, ends, All}
-use Rattle.layout.specs.laws.Sound.{width, Sound, sounds}
-use Rattle.layout.specs.laws.Columns.{Stands, all_length}
+use Rattle.layout.proofs.laws.Tiling.{tiled, ends, All}
+use Rattle.layout.proofs.laws.Sound.{Sound, sounds}
+use Rattle.layout.specs.inner.Lent.{width}
+use Rattle.layout.proofs.laws.Columns.{all_length}
+use Rattle.layout.specs.inner.Lent.{Stands}
 use Rattle.layout.specs.declared.Record.{Record}
 use Rattle.fields.specs.Values.{held_as, number_if, nth, rendered, joined, over_field}
 use Rattle.fields.specs.declared.Fields.{Fields}
-use Rattle.fields.specs.laws.Parts.{first}
+use Rattle.fields.proofs.laws.Parts.{first}
 
 -- bytes put over a field's places
 abbrev pub put : Field → List ℕ → List ℕ → List ℕ

@@ -10,8 +10,9 @@ use lib.Seq.{slice, slice-cons, slice_empty, take-suc-set, drop-set-lt}
 use Rattle.layout.specs.inner.Lent.{kind_of, field_count}
 use Rattle.layout.specs.Field.{Field, field, none}
 use Rattle.layout.specs.Table.{fields_of, all}
-use Rattle.layout.specs.laws.Bytes.{drop_replicate}
-use Rattle.layout.specs.laws.Columns.{Stands, all_length}
+use Rattle.layout.proofs.laws.Bytes.{drop_replicate}
+use Rattle.layout.proofs.laws.Columns.{all_length}
+use Rattle.layout.specs.inner.Lent.{Stands}
 use Rattle.layout.specs.declared.Record.{Record}
 use Rattle.fields.specs.Values.{most_fields, for_each}
 

@@ -1,5 +1,7 @@
 // A record's fields as one value: read from a record, and written as one. A name of one record used
 // with the fields of another spoils them: no call takes them as they stand.
+#![tactic(auto)]
+
 mod presence;
 mod reading;
 mod table;
@@ -26,7 +28,7 @@ const MOST_FIELDS: usize = 32;
 // number and is given; where it is not given, what stands there says nothing: `number_at` tells the
 // two apart. layout::names has the fields' names. The text has the other fields' bytes at their
 // places.
-#[derive(Drop)]
+#[derive(Clone, Copy)]
 pub struct Fields {
     pub which: Record,
     pub numbers: [u64; 32],
@@ -35,7 +37,7 @@ pub struct Fields {
 }
 
 // The check's answer, and the fields if the record is right.
-#[derive(Drop)]
+#[derive(Clone, Copy)]
 pub struct RecordRead {
     pub answer: Answer,
     pub fields: Fields,

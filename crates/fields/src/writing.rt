@@ -84,7 +84,7 @@ fn bytes_of(v: Fields) -> [u8; 240]
 
 // A record that fields make: whether it is right, and if it is, its bytes. There is no other way to a
 // right one than to have it checked.
-#[derive(Drop)]
+#[derive(Clone, Copy)]
 pub struct Made {
     answer: Answer,
     fields: Fields,

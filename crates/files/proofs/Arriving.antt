@@ -10,7 +10,7 @@ use borrow.Author.Tests.{eqb-true, eqb-false, not-true}
 use lib.Dec.{eqb}
 use lib.ListN.{length, take, drop, length-append, length-drop, take-append-drop}
 use lib.Seq.{length-take-le, take_all}
-use Rattle.answer.specs.laws.Order.{never}
+use Rattle.answer.proofs.laws.Order.{never}
 use Rattle.answer.specs.declared.Answer.{Answer}
 use Rattle.answer.specs.declared.Answer.TheVariants as answer
 use Rattle.checker.specs.Order.{ended}
@@ -23,8 +23,8 @@ use Rattle.files.specs.inner.Joined.{Share, is_open, status_by}
 use Rattle.files.specs.declared.incoming.Status.{Status}
 use Rattle.files.specs.declared.incoming.Status.TheVariants.{Open, Refused, Ended}
 use Rattle.files.specs.declared.incoming.Incoming.{Incoming}
-use Rattle.files.specs.laws.Runs.{no_lines, one_line}
-use Rattle.files.specs.laws.Joins.{short_waits, arrive_lines, arrive_joined, none_waiting}
+use Rattle.files.proofs.laws.Runs.{no_lines, one_line}
+use Rattle.files.proofs.laws.Joins.{short_waits, arrive_lines, arrive_joined, none_waiting}
 
 -- ---- less than a line
 

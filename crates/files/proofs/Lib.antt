@@ -2,3 +2,4 @@
 mod Rounds
 mod Waiting
 mod Arriving
+pub mod laws

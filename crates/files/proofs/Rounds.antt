@@ -14,7 +14,7 @@ use Rattle.answer.specs.declared.Answer.TheVariants.{Accepted, Refused}
 use Rattle.checker.specs.Line.{line_bytes}
 use Rattle.checker.specs.Machine.{stepped, step_of}
 use Rattle.files.specs.File.{lines_of, unless, steps}
-use Rattle.files.specs.laws.Runs.{no_lines, next_line}
+use Rattle.files.proofs.laws.Runs.{no_lines, next_line}
 use Rattle.checker.specs.declared.Checker.{Checker}
 use Rattle.checker.specs.declared.Stepped.{Stepped}
 

@@ -9,7 +9,7 @@ use native.Mathlib.Omega.{arith}
 use lib.ListN.{length, take, drop, length-append, length-drop}
 use lib.Seq.{length-take-le, take_all, take-append-le, drop-drop}
 use Rattle.answer.specs.Output.{over}
-use Rattle.layout.specs.laws.Bytes.{over_all, drop_replicate}
+use Rattle.layout.proofs.laws.Bytes.{over_all, drop_replicate}
 use Rattle.checker.specs.Line.{line_bytes}
 use Rattle.files.specs.Parts.{waiting, bytes_in}
 use Rattle.files.specs.inner.Joined.{joined, Share}

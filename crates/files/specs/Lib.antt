@@ -2,4 +2,3 @@ pub mod File
 pub mod Parts
 pub mod Calls
 pub mod inner
-pub mod laws

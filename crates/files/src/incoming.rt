@@ -12,7 +12,7 @@ use answer::{Answer, Refusal};
 use checker::{Checker, LINE_BYTES};
 
 // Open for more; refused for good; or ended, and accepted.
-#[derive(Drop)]
+#[derive(Clone, Copy)]
 pub enum Status {
     Open,
     Refused(Refusal),
@@ -21,7 +21,7 @@ pub enum Status {
 
 // The machine behind the lines that were accepted, the line that waits for the rest of it, and
 // whether more may come.
-#[derive(Drop)]
+#[derive(Clone, Copy)]
 pub struct Incoming {
     machine: Checker,
     line: Unfinished,
@@ -29,14 +29,14 @@ pub struct Incoming {
 }
 
 // What a part's call hands back.
-#[derive(Drop)]
+#[derive(Clone, Copy)]
 pub struct Taken {
     pub state: Incoming,
     pub answer: Answer,
 }
 
 // What the end's call hands back.
-#[derive(Drop)]
+#[derive(Clone, Copy)]
 pub struct Finished {
     pub state: Incoming,
     pub outcome: Outcome,

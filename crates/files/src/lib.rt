@@ -1,4 +1,6 @@
 // A file: whole, or in parts as it arrives.
+#![tactic(auto)]
+
 mod incoming;
 mod lines;
 mod unfinished;

@@ -7,7 +7,7 @@ ghost use Rattle.files.specs.inner.Joined.{joined, Share};
 use checker::LINE_BYTES;
 
 // Room for a line, and how many of its bytes are there. Behind them are zeros.
-#[derive(Drop)]
+#[derive(Clone, Copy)]
 pub(crate) struct Unfinished {
     pub(crate) bytes: [u8; LINE_BYTES],
     pub(crate) count: usize,

@@ -7,7 +7,7 @@ use answer::{Answer, NO_LINE, Refusal, numbers};
 use checker::{Checker, Totals};
 
 // What is in an accepted file, or the first refusal.
-#[derive(Drop)]
+#[derive(Clone, Copy)]
 pub enum Outcome {
     Accepted(Totals),
     Refused(Refusal),

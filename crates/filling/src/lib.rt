@@ -1,4 +1,6 @@
 // What the writer fills: the bank of every later record, the numbering, the counts and the sum.
+#![tactic(auto)]
+
 ghost use Rattle.std.specs.Prelude.{◌≡◌, cond};
 ghost use Rattle.layout.specs.declared.Record.TheVariants.{BatchTrailer, FileTrailer};
 ghost use Rattle.checker.specs.Machine.{sound};

@@ -1,3 +1,2 @@
 pub mod Ids
 pub mod Examples
-pub mod laws

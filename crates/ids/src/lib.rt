@@ -1,12 +1,14 @@
 // Registration numbers: the CPF of a person and the CNPJ of a company or an office, by the check
 // digits of Receita Federal, as strings and as they stand in the fields of a record.
+#![tactic(auto)]
+
 ghost use Rattle.std.specs.Prelude.{◌≡◌, ◌-◌, length};
 ghost use Rattle.ids.specs.Ids.{registration_of, is_cpf, has_cnpj_characters, is_cnpj, characters_fit, all_zeros, id_fits};
 
 use digits::Modulus;
 
 // What the type beside a number says that it is.
-#[derive(Drop)]
+#[derive(Clone, Copy)]
 pub enum Registration {
     Unchecked,
     Cpf,

@@ -6,8 +6,8 @@ use native.Mathlib.Numerals.{add-one}
 use lib.ListN.{length, take, drop, set}
 use Rattle.answer.specs.Output.{over}
 use Rattle.layout.specs.inner.Lent.{byte_at, content_of}
-use Rattle.layout.specs.laws.Bytes.{over_turn}
-use Rattle.layout.specs.laws.Contents.{length_tab, get_or_tab}
+use Rattle.layout.proofs.laws.Bytes.{over_turn}
+use Rattle.layout.proofs.laws.Contents.{length_tab, get_or_tab}
 use Rattle.layout.specs.declared.fixed.Content.{Content}
 
 -- what stands, and what is left to write, give all of it

@@ -6,5 +6,4 @@ pub mod Names
 pub mod Kinds
 pub mod Record
 pub mod Examples
-pub mod laws
 pub mod inner

@@ -13,7 +13,7 @@ const CODE_09: [u8; 2] = *b"09";
 const CODE_52: [u8; 2] = *b"52";
 
 // One byte over and over, as blanks, zeros, or the byte that a type or a segment is; or a byte string.
-#[derive(Drop)]
+#[derive(Clone, Copy)]
 pub enum Content {
     Run(u8),
     LetterC,

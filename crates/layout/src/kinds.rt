@@ -6,7 +6,7 @@ ghost use Rattle.layout.specs.Kinds.{may_be_absent, means};
 use super::fixed::{BLANK, Content, ZERO};
 
 // The caller's number, the caller's text, or fixed content.
-#[derive(Drop)]
+#[derive(Clone, Copy)]
 pub enum Fill {
     Number,
     Text,

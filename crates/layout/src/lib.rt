@@ -1,4 +1,6 @@
 // The layout: the records, the table of their fields, kinds of field, names and places.
+#![tactic(auto)]
+
 mod bytes;
 mod fixed;
 pub mod kinds;
@@ -17,13 +19,13 @@ pub use registrations::registration_at;
 pub use shapes::{Amount, House, LineType, Phase, Shape, is_same, shape_of};
 pub use table::{Entry, FIELDS, FROM, KIND, Span, TO, entry_at, span_of, wide};
 
-#[derive(Drop)]
+#[derive(Clone, Copy)]
 pub enum Direction {
     Remittance,
     Return,
 }
 
-#[derive(Drop)]
+#[derive(Clone, Copy)]
 pub enum Record {
     FileHeader,
     BatchHeader,

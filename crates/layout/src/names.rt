@@ -6,7 +6,7 @@ ghost use Rattle.layout.specs.Names.{name_of};
 
 use super::Record;
 
-#[derive(Drop)]
+#[derive(Clone, Copy)]
 pub struct Name(pub Record, pub usize);
 
 // All lines

@@ -6,7 +6,7 @@ ghost use Rattle.layout.specs.Pairs.{boleto_service, pairs, batch_among, batch_o
 use super::Direction;
 use digits::Number;
 
-#[derive(Drop)]
+#[derive(Clone, Copy)]
 pub enum Batch {
     Credit,
     Boleto,

@@ -8,7 +8,7 @@ ghost use Rattle.layout.specs.declared.shapes.House.TheVariants.{NoRules, OneId}
 use super::Record;
 
 // The type of a line, by what it is to the file: 0, 1, 3, 5 and 9.
-#[derive(Drop)]
+#[derive(Clone, Copy)]
 pub enum LineType {
     FileFirst,
     BatchFirst,
@@ -34,7 +34,7 @@ impl LineType {
 
 // By what was accepted last: nothing, the file header, a batch header, so many records of a payment that
 // has more, its last, a Z, a batch trailer, the file trailer.
-#[derive(Drop)]
+#[derive(Clone, Copy)]
 pub enum Phase {
     Start,
     Headed,
@@ -47,7 +47,7 @@ pub enum Phase {
 }
 
 // The amount of a payment, which its first record has.
-#[derive(Drop)]
+#[derive(Clone, Copy)]
 pub enum Amount {
     NoAmount,
     AmountOfA,
@@ -56,7 +56,7 @@ pub enum Amount {
 }
 
 // What the house asks of a record behind its fields.
-#[derive(Drop)]
+#[derive(Clone, Copy)]
 pub enum House {
     NoRules,
     RulesOfJ,
@@ -67,7 +67,7 @@ pub enum House {
 
 // A record's number in the table, the type of its line, the letter of a detail (0 in other lines),
 // the phase behind it, its amount, and what the house asks of it.
-#[derive(Drop)]
+#[derive(Clone, Copy)]
 pub struct Shape {
     pub code: usize,
     pub line: LineType,

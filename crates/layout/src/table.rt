@@ -238,13 +238,13 @@ pub const KIND: [u8; FIELDS] = [
 ];
 
 // The fields of a record: the first, and the one past the last.
-#[derive(Drop)]
+#[derive(Clone, Copy)]
 pub struct Span {
     pub first: usize,
     pub past: usize,
 }
 
-#[derive(Drop)]
+#[derive(Clone, Copy)]
 pub struct Entry {
     pub from: usize,
     pub to: usize,

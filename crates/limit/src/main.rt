@@ -2,6 +2,8 @@
 // 1,000 cents below the file's limit, half of it withdrawn; is refused 1,000 more, live or withdrawn
 // (number 23), and pays 999; withdraws payments of 0 cents up to the 10,000th, and is refused another,
 // live or withdrawn (number 20). It prints a line for each refusal, and then the reader's.
+#![tactic(auto)]
+
 mod records;
 
 use answer::Cents;

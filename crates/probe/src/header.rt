@@ -20,7 +20,7 @@ const END: usize = 15;
 // The kind of record that may be a payment by itself.
 pub(crate) const KIND_O: u8 = b'O';
 
-#[derive(Drop)]
+#[derive(Clone, Copy)]
 pub(crate) enum Op {
     BarcodeToLine,
     LineToBarcode,
@@ -35,19 +35,19 @@ pub(crate) enum Op {
     Malformed,
 }
 
-#[derive(Drop)]
+#[derive(Clone, Copy)]
 pub(crate) enum Asked {
     Of(Record),
     Unknown,
 }
 
-#[derive(Drop)]
+#[derive(Clone, Copy)]
 enum Way {
     Of(Direction),
     Unknown,
 }
 
-#[derive(Drop)]
+#[derive(Clone, Copy)]
 pub(crate) struct Header {
     pub(crate) op: Op,
     pub(crate) room: usize,

@@ -21,6 +21,8 @@
 // bytes of text. Two more steps are no calls: M and six digits, from where on calls are lent so many
 // bytes of the output memory, or all it has; X and a byte, with which the whole of it is overwritten.
 // There is a line for each call, of an accepted E as of F, and then the output memory.
+#![tactic(auto)]
+
 mod header;
 mod parts;
 mod print;

@@ -20,7 +20,7 @@ const FIRST_DIGIT: u64 = 10000000000000000000;
 
 const MOST_BEHIND_ONE: u64 = 8446744073709551615;
 
-#[derive(Drop)]
+#[derive(Clone, Copy)]
 pub(crate) struct Given {
     pub(crate) right: bool,
     pub(crate) fields: Fields,

@@ -25,14 +25,14 @@ const LEND_BYTES: usize = 7;
 const OVERWRITE_BYTES: usize = 2;
 
 // How many records a payment has.
-#[derive(Drop)]
+#[derive(Clone, Copy)]
 enum Count {
     One,
     Two,
     Three,
 }
 
-#[derive(Drop)]
+#[derive(Clone, Copy)]
 enum Call {
     OpenFile,
     OpenBatch,
@@ -41,7 +41,7 @@ enum Call {
     CloseFile,
 }
 
-#[derive(Drop)]
+#[derive(Clone, Copy)]
 enum Step {
     Call(Call),
     // From here on so many bytes of the output memory are lent.
@@ -52,13 +52,13 @@ enum Step {
 }
 
 // A step of a payload, and where it ends.
-#[derive(Drop)]
+#[derive(Clone, Copy)]
 struct Found {
     step: Step,
     end: usize,
 }
 
-#[derive(Drop)]
+#[derive(Clone, Copy)]
 struct Reached {
     state: Writer,
     lent: usize,

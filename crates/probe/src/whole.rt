@@ -7,7 +7,7 @@ use checker::Checker;
 use digits::Number;
 
 // Where the bytes of a call stand in the payload; not right where it has no such call.
-#[derive(Drop)]
+#[derive(Clone, Copy)]
 pub(crate) struct Call {
     pub(crate) right: bool,
     pub(crate) start: usize,

@@ -7,4 +7,3 @@ pub mod Guarded
 pub mod Demands
 pub mod WrongOnes
 pub mod Rewriting
-pub mod laws

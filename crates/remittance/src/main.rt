@@ -2,6 +2,8 @@
 // reads it back as the bank would, and prints the reader's line: `OK batches records payments cents
 // payments cents`, the live payments before the withdrawn ones. If a call is refused, its line is
 // printed instead: `NO number line place`.
+#![tactic(auto)]
+
 mod records;
 
 use checker::LINE_BYTES;

@@ -1,5 +1,7 @@
 // The line that the programs print: `OK` or `NO`, and numbers. What it says is a value, with a
 // contract; that it is printed is output, of which no contract can speak.
+#![tactic(auto)]
+
 ghost use Rattle.std.specs.Prelude.{◌≡◌};
 ghost use Rattle.checker.specs.Totals.{totals};
 ghost use Rattle.reply.specs.Lines.{refusal_line, answer_line, totals_line, outcome_line};
@@ -14,7 +16,7 @@ use libc::STDOUT_FILENO;
 const MOST_NUMBERS: usize = 6;
 
 // Of the numbers the first `count` stand in the line.
-#[derive(Drop)]
+#[derive(Clone, Copy)]
 pub struct Line {
     accepted: bool,
     numbers: [u64; MOST_NUMBERS],

@@ -1,3 +1,4 @@
 -- Laws on plain values, for the proofs of this crate's functions.
 mod Rows
 mod Rounds
+pub mod laws

@@ -12,21 +12,22 @@ use lib.Dec.{eqb}
 use lib.ListN.{length, get_or, drop, drop_of_length-le}
 use lib.Seq.{slice, slice-cons, slice_empty}
 use Rattle.answer.specs.Rules.{Rule, rule, first_broken, refused_as, and_then}
-use Rattle.answer.specs.laws.Order.{past, here, done, one_then, gone_on, stopped}
+use Rattle.answer.proofs.laws.Order.{past, here, done, one_then, gone_on, stopped}
 use Rattle.answer.specs.declared.Refusal.{Refusal}
 use Rattle.answer.specs.declared.Answer.TheVariants.{Accepted, Refused}
 use Rattle.digits.specs.Digits.{is_digit, leading, all_digits, places}
-use Rattle.digits.specs.laws.Strings.{leading_drop}
+use Rattle.digits.proofs.laws.Strings.{leading_drop}
 use Rattle.layout.specs.inner.Lent.{kind_of, is_whole, field_count, byte_at, content_of}
 use Rattle.layout.specs.Field.{none}
 use Rattle.layout.specs.Table.{type_field, segment_fields, marks, all}
 use Rattle.layout.specs.Kinds.{a_part, means, same}
 use Rattle.layout.specs.Record.{rules_of}
 use Rattle.walk.specs.inner.Masks.{Right, Known}
-use Rattle.layout.specs.laws.Bytes.{same_turn, same_end}
-use Rattle.layout.specs.laws.Contents.{length_tab, get_or_tab}
-use Rattle.layout.specs.laws.Columns.{Stands, all_length, no_segment}
-use Rattle.walk.specs.laws.Masks.{enough}
+use Rattle.layout.proofs.laws.Bytes.{same_turn, same_end}
+use Rattle.layout.proofs.laws.Contents.{length_tab, get_or_tab}
+use Rattle.layout.proofs.laws.Columns.{all_length, no_segment}
+use Rattle.layout.specs.inner.Lent.{Stands}
+use Rattle.walk.proofs.laws.Masks.{enough}
 use Rattle.layout.specs.Records.{shape_of, is_detail}
 use Rattle.layout.specs.declared.fixed.Content.{Content}
 use Rattle.layout.specs.declared.Direction.{Direction}

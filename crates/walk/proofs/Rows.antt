@@ -8,7 +8,7 @@ use borrow.Author.Tests.{eqb-true}
 use lib.Dec.{T as Holds, ltb, eqb}
 use lib.ListN.{length, get_or}
 use Rattle.answer.specs.Rules.{rule, first_broken}
-use Rattle.answer.specs.laws.Order.{past, done}
+use Rattle.answer.proofs.laws.Order.{past, done}
 use Rattle.answer.specs.declared.Answer.{Answer}
 use Rattle.answer.specs.declared.Answer.TheVariants.{Accepted}
 use Rattle.digits.specs.Digits.{all_digits}
@@ -16,8 +16,8 @@ use Rattle.layout.specs.inner.Lent.{n_or_blank, first_letter, is_mark, kind_of, 
 use Rattle.layout.specs.Field.{Kind, NOrBlank, T as Txt, RecordType, Segment}
 use Rattle.layout.specs.Kinds.{Part, means, wrong, is_fixed, same, blank}
 use Rattle.walk.specs.inner.Steps.{Looked, for_digits, for_content, tested, mark_look, text_look, number_or_blank_look}
-use Rattle.layout.specs.laws.Bytes.{blanks_asked, digits_asked}
-use Rattle.layout.specs.laws.Contents.{run_is, exact_is}
+use Rattle.layout.proofs.laws.Bytes.{blanks_asked, digits_asked}
+use Rattle.layout.proofs.laws.Contents.{run_is, exact_is}
 use Rattle.layout.specs.declared.fixed.Content.{Content}
 use Rattle.layout.specs.declared.fixed.Content.TheVariants.{Run}
 use Rattle.walk.specs.declared.looks.Look.{Look}

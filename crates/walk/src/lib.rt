@@ -1,4 +1,6 @@
 // One record against the layout table: its bytes, its type and segment, and its fields.
+#![tactic(auto)]
+
 mod bytes;
 mod looks;
 mod masks;
@@ -15,7 +17,7 @@ use layout::{Direction, FIELDS, FROM, KIND, RECORD_BYTES, Record, TO};
 use masks::hold;
 
 // The answers of a record's fields in three parts, cut at two indexes.
-#[derive(Drop)]
+#[derive(Clone, Copy)]
 pub struct Parts {
     pub front: Answer,
     pub middle: Answer,

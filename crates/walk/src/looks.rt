@@ -12,7 +12,7 @@ use answer::{Answer, numbers};
 use layout::{BLANK, Batch, Content, Direction, ZERO, kinds, places};
 
 // For digits, for fixed content, or not at all, because the field has been tested whole.
-#[derive(Drop)]
+#[derive(Clone, Copy)]
 pub(crate) enum Look {
     Digits,
     Fixed { number: u8, content: Content },

@@ -11,7 +11,7 @@ use Rattle.answer.specs.declared.LineNo.{LineNo}
 use Rattle.answer.specs.declared.Refusal.{Refusal}
 use Rattle.answer.specs.declared.Answer.{Answer}
 use Rattle.answer.specs.declared.Answer.TheVariants.{Accepted, Refused}
-use Rattle.answer.specs.laws.Order.{accepted_kept, kept_behind, first_append, first_on_line, one_then}
+use Rattle.answer.proofs.laws.Order.{accepted_kept, kept_behind, first_append, first_on_line, one_then}
 use Rattle.layout.specs.Records.{is_one_of}
 use Rattle.layout.specs.declared.Record.{Record}
 use Rattle.fields.specs.declared.Fields.{Fields}
@@ -20,7 +20,7 @@ use Rattle.checker.specs.declared.Checker.{Checker}
 use Rattle.writer.specs.Given.{Call, records_of}
 use Rattle.writer.specs.Refusals.{turn_rule, held, turn_limits, turn_rules, expected_in, expected_now, given_on_line, all_given, last_rules, call_rules}
 use Rattle.writer.specs.Outcome.{writer, behind_all, cursor_behind, output_after, answer_of, Wrote}
-use Rattle.writer.specs.laws.Accepted.{off_line}
+use Rattle.writer.proofs.laws.Accepted.{off_line}
 use Rattle.writer.specs.inner.Steps.{turn_of, WroteIn}
 use Rattle.writer.specs.declared.Writer.{Writer}
 use Rattle.writer.specs.declared.Written.{Written}

@@ -6,7 +6,7 @@ use native.Mathlib.Decide.{dec_lt, dec_le}
 use native.Mathlib.Omega.{arith}
 use borrow.Author.Tests.{le-leb, lt-leb, lt-ltb, le-ltb}
 use lib.Dec.{leb, ltb}
-use Rattle.layout.specs.laws.Bytes.{and_left}
+use Rattle.layout.proofs.laws.Bytes.{and_left}
 use Rattle.checker.specs.Machine.{sound}
 use Rattle.checker.specs.declared.Checker.{Checker}
 use Rattle.writer.specs.Refusals.{held}

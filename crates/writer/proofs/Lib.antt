@@ -3,3 +3,4 @@ pub mod Held
 pub mod Lent
 pub mod Trying
 pub mod Answering
+pub mod laws

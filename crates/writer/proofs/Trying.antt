@@ -13,20 +13,20 @@ use Rattle.answer.specs.declared.LineNo.{LineNo}
 use Rattle.answer.specs.declared.Refusal.{Refusal}
 use Rattle.answer.specs.declared.Answer.{Answer}
 use Rattle.answer.specs.declared.Answer.TheVariants.{Accepted, Refused}
-use Rattle.answer.specs.laws.Order.{never_refused, past, done, first_on_line, one_then, here, gone_on, stopped, accepted_kept, kept_accepted}
+use Rattle.answer.proofs.laws.Order.{never_refused, past, done, first_on_line, one_then, here, gone_on, stopped, accepted_kept, kept_accepted}
 use Rattle.layout.specs.Records.{is_one_of}
 use Rattle.layout.specs.Table.{segment_place, fields_of, record_bytes}
 use Rattle.layout.specs.Record.{rules_of, byte_rule}
 use Rattle.layout.specs.declared.Direction.{Direction}
 use Rattle.layout.specs.declared.Record.{Record}
 use Rattle.fields.specs.Values.{record_of, made_of, Puts}
-use Rattle.fields.specs.laws.Parts.{record_length}
-use Rattle.fields.specs.laws.Marks.{made_answer}
+use Rattle.fields.proofs.laws.Parts.{record_length}
+use Rattle.fields.proofs.laws.Marks.{made_answer}
 use Rattle.fields.specs.declared.Fields.{Fields}
 use Rattle.fields.specs.declared.writing.Made.{Made}
 use Rattle.checker.specs.Line.{house_rules, line_from}
 use Rattle.checker.specs.Machine.{line_of, sound, step_of, most_details}
-use Rattle.checker.specs.laws.Meaning.{off_line_accepted}
+use Rattle.checker.proofs.laws.Meaning.{off_line_accepted}
 use Rattle.checker.specs.declared.Checker.{Checker}
 use Rattle.checker.specs.declared.Stepped.{Stepped}
 use Rattle.filling.specs.Filling.{filled, bytes_of}
@@ -35,13 +35,13 @@ use Rattle.writer.specs.Outcome.{lines_for, behind_all}
 use Rattle.fields.specs.Values.{Whole}
 use Rattle.writer.specs.Given.{records_in}
 use Rattle.writer.proofs.Lent.{lines_and}
-use Rattle.layout.specs.laws.Records.{itself}
-use Rattle.writer.specs.laws.Given.{some_few, from_position}
-use Rattle.writer.specs.laws.Paying.{Inside, before, inside_next, drop_one}
-use Rattle.filling.specs.laws.Filled.{filled_which}
-use Rattle.writer.specs.laws.Lines.{full_text}
-use Rattle.writer.specs.laws.Accepted.{off_line, WellMade, Right}
-use Rattle.writer.specs.laws.TakesLine.{steps_by_house, takes}
+use Rattle.layout.proofs.laws.Records.{itself}
+use Rattle.writer.proofs.laws.Given.{some_few, from_position}
+use Rattle.writer.proofs.laws.Paying.{Inside, before, inside_next, drop_one}
+use Rattle.filling.proofs.laws.Filled.{filled_which}
+use Rattle.writer.proofs.laws.Lines.{full_text}
+use Rattle.writer.proofs.laws.Accepted.{off_line, WellMade, Right}
+use Rattle.writer.proofs.laws.TakesLine.{steps_by_house, takes}
 use Rattle.writer.specs.inner.Steps.{kind_answer, MayTry, Tries, line_with, lines_with, AllRight, none_made, one_more, nth_in, expected_at, TriesPayment, MayPay}
 use Rattle.writer.specs.declared.given.Payment.{Payment}
 use Rattle.writer.specs.declared.records.Tried.{Tried}

@@ -3,5 +3,4 @@ pub mod Refusals
 pub mod Outcome
 pub mod Calls
 pub mod Examples
-pub mod laws
 pub mod inner

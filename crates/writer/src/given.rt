@@ -12,7 +12,7 @@ use layout::Record;
 pub(crate) const MOST_RECORDS: usize = 3;
 
 // How many records there are.
-#[derive(Drop)]
+#[derive(Clone, Copy)]
 pub(crate) enum Count {
     Two,
     Three,
@@ -21,7 +21,7 @@ pub(crate) enum Count {
 
 // No other count of records can be written down, and no single record that is no O. A place that is
 // not used holds none.
-#[derive(Drop)]
+#[derive(Clone, Copy)]
 pub struct Payment {
     pub(crate) first: Fields,
     pub(crate) second: Fields,

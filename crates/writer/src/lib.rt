@@ -1,5 +1,7 @@
 // The writer: calls that open a file, open a batch, pay, close the batch and close the file, into
 // output memory that the caller lends.
+#![tactic(auto)]
+
 mod given;
 mod payments;
 mod records;
@@ -23,13 +25,13 @@ use records::{put_line, try_record};
 use turns::{batch_limits, check_turn, payment_limits, turns_at};
 
 // The checker's state behind what was written, and the place that was reached in the output.
-#[derive(Drop)]
+#[derive(Clone, Copy)]
 pub struct Writer {
     checker: Checker,
     cursor: usize,
 }
 
-#[derive(Drop)]
+#[derive(Clone, Copy)]
 pub struct Written {
     pub state: Writer,
     pub answer: Answer,

@@ -20,7 +20,7 @@ use layout::{Amount, Batch, Direction, Record, names};
 
 // The answer, and where it accepts, the state behind all records, which are made. Behind the last
 // nothing is.
-#[derive(Drop)]
+#[derive(Clone, Copy)]
 pub(crate) struct TriedPayment {
     pub(crate) answer: Answer,
     pub(crate) checker: Checker,

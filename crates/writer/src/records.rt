@@ -10,7 +10,7 @@ use fields::{Fields, Made};
 use layout::{RECORD_BYTES, places};
 
 // The answer, and where it accepts, the state behind the record, which is made.
-#[derive(Drop)]
+#[derive(Clone, Copy)]
 pub(crate) struct Tried {
     pub(crate) answer: Answer,
     pub(crate) checker: Checker,

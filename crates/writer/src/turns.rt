@@ -24,7 +24,7 @@ const TRAILERS: RecordCount = RecordCount(2);
 const MOST_DETAILS: u64 = 3;
 
 // The calls that are in turn: what opens the file, a batch; a payment; what closes the batch, the file.
-#[derive(Drop)]
+#[derive(Clone, Copy)]
 pub(crate) struct Turns {
     pub(crate) header: bool,
     pub(crate) batch: bool,

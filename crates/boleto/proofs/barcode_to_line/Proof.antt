@@ -1,10 +1,10 @@
 -- `boleto::barcode_to_line` meets its contract. Assumes nothing.
 use borrow.Author.Rules.{rules}
-use Rattle.answer.specs.laws.Frame.{Answers, answers, keeps, input_kept, has_room, writes}
+use Rattle.answer.proofs.laws.Frame.{Answers, answers, keeps, input_kept, has_room, writes}
 use Rattle.boleto.specs.Strings.{line_digits}
 use Rattle.boleto.specs.Rules.{barcode_rules}
-use Rattle.boleto.specs.laws.Accepted.{barcode-of}
-use Rattle.boleto.specs.laws.Conversions.{line_long}
+use Rattle.boleto.proofs.laws.Accepted.{barcode-of}
+use Rattle.boleto.proofs.laws.Conversions.{line_long}
 use Rattle.boleto.proofs.barcode_to_line.Statement.{statement}
 use Rattle.boleto.proofs.barcode_to_line.Tie as tie
 

@@ -2,11 +2,11 @@
 use mathlib.Core.Path.{◌≡◌, sym, ◌∙◌}
 use borrow.Author.Rules.{rules}
 use Rattle.answer.specs.Rules.{first_broken}
-use Rattle.answer.specs.laws.Order.{gone_on, stopped}
+use Rattle.answer.proofs.laws.Order.{gone_on, stopped}
 use Rattle.answer.specs.declared.Answer.TheVariants.{Accepted}
 use Rattle.boleto.specs.Strings.{line_digits}
 use Rattle.boleto.specs.Rules.{head_rules, digit_line_rules}
-use Rattle.boleto.specs.laws.Accepted.{head_long}
+use Rattle.boleto.proofs.laws.Accepted.{head_long}
 use Rattle.boleto.proofs.check_digit_line.Statement.{statement}
 use Rattle.boleto.proofs.check_digit_line.Tie as tie
 

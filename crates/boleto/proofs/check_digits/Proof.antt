@@ -1,7 +1,7 @@
 -- `boleto::check_digits` meets its contract. Assumes nothing.
 use mathlib.Core.Path.{refl}
 use borrow.Author.Rules.{rules}
-use Rattle.answer.specs.laws.Order.{one_then}
+use Rattle.answer.proofs.laws.Order.{one_then}
 use Rattle.boleto.specs.Rules.{check_rules}
 use Rattle.boleto.proofs.check_digits.Statement.{statement}
 use Rattle.boleto.proofs.check_digits.Tie as tie

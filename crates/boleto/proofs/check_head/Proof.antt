@@ -1,6 +1,6 @@
 -- `boleto::check_head` meets its contract. Assumes nothing.
 use borrow.Author.Rules.{rules}
-use Rattle.answer.specs.laws.Order.{joined}
+use Rattle.answer.proofs.laws.Order.{joined}
 use Rattle.boleto.specs.Rules.{head_rules}
 use Rattle.boleto.proofs.check_head.Statement.{statement}
 use Rattle.boleto.proofs.check_head.Tie as tie

@@ -5,9 +5,9 @@ use native.Mathlib.Omega.{arith}
 use borrow.Author.Rules.{rules}
 use borrow.Author.Tests.{eq-eqb, ne_eqb}
 use lib.ListN.{length}
-use Rattle.answer.specs.laws.Order.{past, here, done}
+use Rattle.answer.proofs.laws.Order.{past, here, done}
 use Rattle.digits.specs.Digits.{leading}
-use Rattle.digits.specs.laws.Strings.{leading_le}
+use Rattle.digits.proofs.laws.Strings.{leading_le}
 use Rattle.boleto.proofs.check_string.Statement.{statement}
 use Rattle.boleto.proofs.check_string.Tie as tie
 

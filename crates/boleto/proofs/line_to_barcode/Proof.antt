@@ -1,10 +1,10 @@
 -- `boleto::line_to_barcode` meets its contract. Assumes nothing.
 use borrow.Author.Rules.{rules}
-use Rattle.answer.specs.laws.Frame.{Answers, answers, keeps, input_kept, has_room, writes}
+use Rattle.answer.proofs.laws.Frame.{Answers, answers, keeps, input_kept, has_room, writes}
 use Rattle.boleto.specs.Strings.{barcode_digits}
 use Rattle.boleto.specs.Rules.{digit_line_rules}
-use Rattle.boleto.specs.laws.Accepted.{line_of}
-use Rattle.boleto.specs.laws.Conversions.{barcode_long}
+use Rattle.boleto.proofs.laws.Accepted.{line_of}
+use Rattle.boleto.proofs.laws.Conversions.{barcode_long}
 use Rattle.boleto.proofs.line_to_barcode.Statement.{statement}
 use Rattle.boleto.proofs.line_to_barcode.Tie as tie
 

@@ -1,6 +1,6 @@
 -- `calendar::days_in` meets its contract. Assumes nothing.
 use borrow.Author.Rules.{rules}
-use Rattle.calendar.specs.laws.Days.{turns}
+use Rattle.calendar.proofs.laws.Days.{turns}
 use Rattle.calendar.proofs.days_in.Statement.{statement}
 use Rattle.calendar.proofs.days_in.Tie as tie
 

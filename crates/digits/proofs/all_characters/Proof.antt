@@ -2,7 +2,7 @@
 use Rattle.std.proofs.Common.{◌≡◌, ◌-◌, ◌≤◌, ◌&&◌, length, drop, sym, refl, ◌∙◌, add-one, drop_of_length-le, rules}
 use mathlib.Core.Bool.{and-true, and_assoc}
 use Rattle.digits.specs.Digits.{is_character, every_byte, all_characters}
-use Rattle.digits.specs.laws.Strings.{every_turn}
+use Rattle.digits.proofs.laws.Strings.{every_turn}
 use Rattle.digits.proofs.all_characters.Statement.{statement}
 use Rattle.digits.proofs.all_characters.Tie as tie
 

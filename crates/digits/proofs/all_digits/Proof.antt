@@ -2,8 +2,8 @@
 use Rattle.std.proofs.Common.{◌≡◌, ◌-◌, ◌≤◌, ◌&&◌, length, drop, sym, refl, ◌∙◌, add-one, drop_of_length-le, rules}
 use mathlib.Core.Bool.{and-true}
 use Rattle.digits.specs.Digits.{leading, all_digits}
-use Rattle.digits.specs.laws.Tests.{and_regroup}
-use Rattle.digits.specs.laws.Strings.{all_drop}
+use Rattle.digits.proofs.laws.Tests.{and_regroup}
+use Rattle.digits.proofs.laws.Strings.{all_drop}
 use Rattle.digits.proofs.all_digits.Statement.{statement}
 use Rattle.digits.proofs.all_digits.Tie as tie
 

@@ -1,7 +1,7 @@
 -- `digits::character_of` meets its contract. Assumes nothing.
 use Rattle.std.proofs.Common.{◌≡◌, true, ◌||◌, sym, ◌∙◌, ap₂, arith, rules}
 use Rattle.digits.specs.Digits.{is_character}
-use Rattle.digits.specs.laws.Strings.{character_is}
+use Rattle.digits.proofs.laws.Strings.{character_is}
 use Rattle.digits.proofs.character_of.Statement.{statement}
 use Rattle.digits.proofs.character_of.Tie as tie
 

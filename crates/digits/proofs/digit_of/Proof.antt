@@ -1,7 +1,7 @@
 -- `digits::digit_of` meets its contract. Assumes nothing.
 use Rattle.std.proofs.Common.{◌≡◌, true, sym, ◌∙◌, arith, rules}
 use Rattle.digits.specs.Digits.{is_digit}
-use Rattle.digits.specs.laws.Strings.{digit_is}
+use Rattle.digits.proofs.laws.Strings.{digit_is}
 use Rattle.digits.proofs.digit_of.Statement.{statement}
 use Rattle.digits.proofs.digit_of.Tie as tie
 

@@ -3,7 +3,7 @@ use Rattle.std.proofs.Common.{◌≡◌, ◌+◌, ◌-◌, ◌≤◌, length, dr
 use borrow.Author.Tests.{not-true, not-false}
 use lib.Seq.{drop-length}
 use Rattle.digits.specs.Digits.{leading}
-use Rattle.digits.specs.laws.Strings.{leading_drop}
+use Rattle.digits.proofs.laws.Strings.{leading_drop}
 use Rattle.digits.proofs.leading.Statement.{statement}
 use Rattle.digits.proofs.leading.Tie as tie
 

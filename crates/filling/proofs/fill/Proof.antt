@@ -2,7 +2,7 @@
 use Rattle.filling.specs.Filling.{batch_index, filled_by, filled}
 use mathlib.Core.Path.{◌≡◌, refl, sym, ap, ◌∙◌}
 use Rattle.layout.specs.Records.{shape_of}
-use Rattle.layout.specs.laws.Records.{the-only}
+use Rattle.layout.proofs.laws.Records.{the-only}
 use Rattle.layout.specs.declared.Record.{Record}
 use Rattle.layout.specs.declared.shapes.Shape.{Shape}
 use Rattle.layout.specs.declared.shapes.LineType.{LineType}
@@ -12,10 +12,10 @@ use Rattle.checker.specs.declared.Checker.{Checker}
 use mathlib.Core.Bool.{true, cond}
 use borrow.Author.Tests.{not-true, not-false}
 use Rattle.checker.specs.Machine.{sound}
-use Rattle.checker.specs.laws.Bounds.{bounded}
+use Rattle.checker.proofs.laws.Bounds.{bounded}
 use borrow.Author.Rules.{rules}
 use Rattle.fields.specs.Values.{set_nth}
-use Rattle.fields.specs.laws.Named.{by_name}
+use Rattle.fields.proofs.laws.Named.{by_name}
 use Rattle.checker.specs.Line.{header_batch}
 use Rattle.filling.proofs.fill.Statement.{statement}
 use Rattle.filling.proofs.fill.Tie as tie

@@ -4,14 +4,14 @@ use Prim.Native.Nat.{◌+◌}
 use native.Mathlib.Omega.{arith}
 use Rattle.checker.specs.Totals.{record_count, cent_sum}
 use borrow.Author.Rules.{rules}
-use Rattle.answer.specs.laws.Sums.{fits}
-use Rattle.checker.specs.laws.Bounds.{cents-fit}
+use Rattle.answer.proofs.laws.Sums.{fits}
+use Rattle.checker.proofs.laws.Bounds.{cents-fit}
 use Rattle.layout.specs.Table.{fields_of}
 use Rattle.layout.specs.Names.{before, index_of}
 use Rattle.layout.specs.declared.Record.{Record}
 use Rattle.layout.specs.declared.Record.TheVariants.{BatchTrailer}
 use Rattle.fields.specs.Values.{set_nth}
-use Rattle.fields.specs.laws.Named.{by_name}
+use Rattle.fields.proofs.laws.Named.{by_name}
 use Rattle.filling.specs.Filling.{batch_records_index, batch_sum_index, filled_in_batch}
 use Rattle.filling.proofs.fill_batch_trailer.Statement.{statement}
 use Rattle.filling.proofs.fill_batch_trailer.Tie as tie

@@ -2,7 +2,7 @@
 use mathlib.Core.Path.{refl, ◌∙◌}
 use Rattle.checker.specs.Totals.{record_count}
 use borrow.Author.Rules.{rules}
-use Rattle.fields.specs.laws.Named.{by_name}
+use Rattle.fields.proofs.laws.Named.{by_name}
 use Rattle.filling.specs.Filling.{number_index, filled_in_batch}
 use Rattle.filling.proofs.fill_detail.Statement.{statement}
 use Rattle.filling.proofs.fill_detail.Tie as tie

@@ -4,13 +4,13 @@ use Prim.Native.Nat.{◌+◌}
 use native.Mathlib.Omega.{arith}
 use Rattle.checker.specs.Totals.{batch_count, record_count}
 use borrow.Author.Rules.{rules}
-use Rattle.answer.specs.laws.Sums.{fits}
+use Rattle.answer.proofs.laws.Sums.{fits}
 use Rattle.layout.specs.Table.{fields_of}
 use Rattle.layout.specs.Names.{before, index_of}
 use Rattle.layout.specs.declared.Record.{Record}
 use Rattle.layout.specs.declared.Record.TheVariants.{FileTrailer}
 use Rattle.fields.specs.Values.{set_nth}
-use Rattle.fields.specs.laws.Named.{by_name}
+use Rattle.fields.proofs.laws.Named.{by_name}
 use Rattle.checker.specs.Line.{trailer_batch}
 use Rattle.filling.specs.Filling.{file_batches_index, file_records_index, filled_line}
 use Rattle.filling.proofs.fill_file_trailer.Statement.{statement}

@@ -2,7 +2,7 @@
 use mathlib.Core.Path.{◌≡◌, refl, ◌∙◌}
 use borrow.Author.Rules.{rules}
 use Rattle.fields.specs.Values.{set_nth}
-use Rattle.fields.specs.laws.Named.{by_name}
+use Rattle.fields.proofs.laws.Named.{by_name}
 use Rattle.filling.specs.Filling.{bank_index, batch_index}
 use Rattle.filling.proofs.fill_line.Statement.{statement}
 use Rattle.filling.proofs.fill_line.Tie as tie

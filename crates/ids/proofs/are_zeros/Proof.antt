@@ -7,7 +7,7 @@ use borrow.Author.Rules.{rules}
 use lib.Dec.{eqb}
 use lib.ListN.{length, drop, drop_of_length-le}
 use Rattle.digits.specs.Digits.{digit_byte, every_byte}
-use Rattle.digits.specs.laws.Strings.{every_turn}
+use Rattle.digits.proofs.laws.Strings.{every_turn}
 use Rattle.ids.specs.Ids.{all_zeros}
 use Rattle.ids.proofs.are_zeros.Statement.{statement}
 use Rattle.ids.proofs.are_zeros.Tie as tie

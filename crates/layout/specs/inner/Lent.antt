@@ -1,7 +1,7 @@
 -- The table as the code holds and lends it: columns of numbers, kinds by number, and fixed content. Assumes nothing.
 use Rattle.std.specs.Prelude.{◌≡◌, Bool, true, cond, ◌&&◌, List, [], ◌∷◌, map, ℕ, ◌+◌, ◌-◌, leb, ltb, eqb, length, get_or, take}
 use Rattle.digits.specs.Digits.{digit_byte}
-use Rattle.digits.specs.laws.Strings.{tab}
+use Rattle.digits.specs.inner.Rows.{tab}
 use Rattle.ids.specs.Ids.{cnpj_characters}
 use Rattle.layout.specs.Field.{Kind, N, NOrBlank, Id, T, F, D, Time, K, O, Zeros, Exact, OneOf, Service, Form, Barcode, Code, RecordType, Segment, Field}
 use Rattle.layout.specs.Table.{fields_of, zero_one_two, zero_nine, one_two, exact_c, exact09, exact52, fields_of_each, all}
@@ -125,3 +125,14 @@ pub record Columns (from to kind : List ℕ) : Type 0 where
   pub froms : from ≡ map (λ (g : Field). g.from) all
   pub tos : to ≡ map (λ (g : Field). g.to) all
   pub kinds_of : map kind_of kind ≡ map (λ (g : Field). g.kind) all
+
+abbrev pub width : Field → ℕ
+width f = f.to - (f.from - 1)
+
+-- an entry of the columns is the table's, within a record, and of a width that its kind may have
+pub record Stands (f from to k : ℕ) : Type 0 where
+  pub is : field from to (kind_of k) ≡ get_or all f none
+  pub low : 1 ≤ from
+  pub order : from ≤ to
+  pub high : to ≤ record_bytes
+  pub may : T (may_be (kind_of k) (to - (from - 1)))

@@ -2,7 +2,7 @@
 use mathlib.Core.Path.{refl, ◌∙◌}
 use borrow.Author.Rules.{rules}
 use borrow.Author.Tests.{eq-eqb, ne_eqb}
-use Rattle.answer.specs.laws.Order.{past, here}
+use Rattle.answer.proofs.laws.Order.{past, here}
 use Rattle.layout.specs.Table.{fields_of, fields_of_each, all}
 use Rattle.walk.proofs.check_fields.Statement.{statement}
 use Rattle.walk.proofs.check_fields.Tie as tie

@@ -8,12 +8,12 @@ use Rattle.answer.specs.Rules.{first_broken}
 use Rattle.layout.specs.Field.{Field}
 use Rattle.layout.specs.Record.{rules_of}
 use Rattle.layout.specs.inner.Lent.{field_count}
-use Rattle.layout.specs.laws.Columns.{all_fields}
+use Rattle.layout.proofs.laws.Columns.{all_fields}
 use Rattle.layout.specs.declared.Direction.{Direction}
 use Rattle.layout.specs.declared.Record.{Record}
 use borrow.Author.Rules.{rules}
 use borrow.Author.Tests.{eq-eqb, ne_eqb}
-use Rattle.answer.specs.laws.Order.{past, here}
+use Rattle.answer.proofs.laws.Order.{past, here}
 use Rattle.layout.specs.Table.{fields_of, fields_of_each, all}
 use Rattle.walk.proofs.check_parts.Statement.{statement}
 use Rattle.walk.proofs.check_parts.Tie as tie

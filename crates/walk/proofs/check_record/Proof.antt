@@ -2,10 +2,10 @@
 use mathlib.Core.Path.{refl, sym, ◌∙◌}
 use borrow.Author.Rules.{rules}
 use borrow.Author.Tests.{eq-eqb, ne_eqb}
-use Rattle.answer.specs.laws.Order.{past, here, one_then, first_append}
+use Rattle.answer.proofs.laws.Order.{past, here, one_then, first_append}
 use Rattle.layout.specs.Table.{fields_of, fields_of_each, all}
 use Rattle.layout.specs.Record.{record_rules}
-use Rattle.layout.specs.laws.Columns.{all_fields}
+use Rattle.layout.proofs.laws.Columns.{all_fields}
 use Rattle.walk.proofs.check_record.Statement.{statement}
 use Rattle.walk.proofs.check_record.Tie as tie
 

@@ -16,8 +16,8 @@ use Rattle.fields.specs.declared.writing.Made.{Made}
 use Rattle.checker.specs.Order.{payment}
 use Rattle.checker.specs.Line.{most_payments, line_from}
 use Rattle.checker.specs.Machine.{line_of, sound, most_details}
-use Rattle.checker.specs.laws.Edges.{Follows}
-use Rattle.checker.specs.laws.Details.{Limit}
+use Rattle.checker.specs.inner.Following.{Follows}
+use Rattle.checker.specs.inner.Following.{Limit}
 use Rattle.checker.specs.declared.Checker.{Checker}
 use Rattle.writer.specs.Given.{first_in, records_in}
 use Rattle.filling.specs.Filling.{filled}

@@ -2,11 +2,11 @@
 use mathlib.Core.Path.{◌≡◌, sym, ◌∙◌}
 use borrow.Author.Rules.{rules}
 use Rattle.answer.specs.Rules.{first_broken}
-use Rattle.answer.specs.laws.Order.{gone_on, stopped}
+use Rattle.answer.proofs.laws.Order.{gone_on, stopped}
 use Rattle.answer.specs.declared.Answer.TheVariants.{Accepted}
 use Rattle.boleto.specs.Collection.{code_line_digits}
 use Rattle.boleto.specs.CollectionRules.{code_head_rules, code_line_rules}
-use Rattle.boleto.specs.laws.CollectionAccepted.{code_head_long}
+use Rattle.boleto.proofs.laws.CollectionAccepted.{code_head_long}
 use Rattle.boleto.proofs.collection.check_code_line.Statement.{statement}
 use Rattle.boleto.proofs.collection.check_code_line.Tie as tie
 

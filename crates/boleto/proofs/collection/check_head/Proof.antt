@@ -1,6 +1,6 @@
 -- `boleto::collection::check_head` meets its contract. Assumes nothing.
 use borrow.Author.Rules.{rules}
-use Rattle.answer.specs.laws.Order.{ahead, joined}
+use Rattle.answer.proofs.laws.Order.{ahead, joined}
 use Rattle.boleto.specs.CollectionRules.{code_head_rules}
 use Rattle.boleto.proofs.collection.check_head.Statement.{statement}
 use Rattle.boleto.proofs.collection.check_head.Tie as tie

@@ -1,10 +1,10 @@
 -- `boleto::collection::code_to_line` meets its contract. Assumes nothing.
 use borrow.Author.Rules.{rules}
-use Rattle.answer.specs.laws.Frame.{Answers, answers, keeps, input_kept, has_room, writes}
+use Rattle.answer.proofs.laws.Frame.{Answers, answers, keeps, input_kept, has_room, writes}
 use Rattle.boleto.specs.Collection.{code_line_digits}
 use Rattle.boleto.specs.CollectionRules.{code_rules}
-use Rattle.boleto.specs.laws.CollectionAccepted.{code-of}
-use Rattle.boleto.specs.laws.CollectionConversions.{code_line_long}
+use Rattle.boleto.proofs.laws.CollectionAccepted.{code-of}
+use Rattle.boleto.proofs.laws.CollectionConversions.{code_line_long}
 use Rattle.boleto.proofs.collection.code_to_line.Statement.{statement}
 use Rattle.boleto.proofs.collection.code_to_line.Tie as tie
 

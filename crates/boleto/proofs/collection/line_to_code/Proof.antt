@@ -1,10 +1,10 @@
 -- `boleto::collection::line_to_code` meets its contract. Assumes nothing.
 use borrow.Author.Rules.{rules}
-use Rattle.answer.specs.laws.Frame.{Answers, answers, keeps, input_kept, has_room, writes}
+use Rattle.answer.proofs.laws.Frame.{Answers, answers, keeps, input_kept, has_room, writes}
 use Rattle.boleto.specs.Collection.{code_digits}
 use Rattle.boleto.specs.CollectionRules.{code_line_rules}
-use Rattle.boleto.specs.laws.CollectionAccepted.{code-line-of}
-use Rattle.boleto.specs.laws.CollectionConversions.{code_long}
+use Rattle.boleto.proofs.laws.CollectionAccepted.{code-line-of}
+use Rattle.boleto.proofs.laws.CollectionConversions.{code_long}
 use Rattle.boleto.proofs.collection.line_to_code.Statement.{statement}
 use Rattle.boleto.proofs.collection.line_to_code.Tie as tie
 

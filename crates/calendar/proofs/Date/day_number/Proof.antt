@@ -7,8 +7,8 @@ use borrow.Author.Rules.{rules}
 use borrow.Author.Tests.{not-true, not-false}
 use Rattle.calendar.specs.Calendar.{first_year, exists}
 use Rattle.calendar.specs.Due.{day_number}
-use Rattle.calendar.specs.laws.Days.{in_year, years_closed}
-use Rattle.calendar.specs.laws.Existing.{day_in_month}
+use Rattle.calendar.proofs.laws.Days.{in_year, years_closed}
+use Rattle.calendar.proofs.laws.Existing.{day_in_month}
 use Rattle.calendar.proofs.Date.day_number.Statement.{statement}
 use Rattle.calendar.proofs.Date.day_number.Tie as tie
 

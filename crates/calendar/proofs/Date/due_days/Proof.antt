@@ -2,7 +2,7 @@
 use native.Mathlib.Omega.{arith}
 use borrow.Author.Rules.{rules}
 use Rattle.calendar.specs.Due.{due_days}
-use Rattle.calendar.specs.laws.Factors.{base_day}
+use Rattle.calendar.proofs.laws.Factors.{base_day}
 use Rattle.calendar.proofs.Date.due_days.Statement.{statement}
 use Rattle.calendar.proofs.Date.due_days.Tie as tie
 

@@ -1,7 +1,7 @@
 -- `calendar::Date::exists` meets its contract. Assumes nothing.
 use mathlib.Core.Path.{sym, subst}
 use lib.Dec.{T}
-use Rattle.calendar.specs.laws.Existing.{exists_is, in-range}
+use Rattle.calendar.proofs.laws.Existing.{exists_is, in-range}
 use Rattle.calendar.proofs.Date.exists.Statement.{statement}
 use Rattle.calendar.proofs.Date.exists.Tie as tie
 

@@ -4,7 +4,7 @@ use Prim.Native.Nat.{◌-◌}
 use native.Mathlib.Omega.{arith}
 use borrow.Author.Rules.{rules}
 use borrow.Author.Tests.{lt-ltb, le-ltb}
-use Rattle.calendar.specs.laws.Days.{months_closed, february_short}
+use Rattle.calendar.proofs.laws.Days.{months_closed, february_short}
 use Rattle.calendar.proofs.due.days_before_month.Statement.{statement}
 use Rattle.calendar.proofs.due.days_before_month.Tie as tie
 

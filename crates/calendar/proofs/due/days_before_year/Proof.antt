@@ -4,7 +4,7 @@ use Prim.Native.Nat.{◌+◌, ◌-◌}
 use native.Mathlib.Omega.{arith}
 use borrow.Author.Rules.{rules}
 use Rattle.calendar.specs.Calendar.{first_year}
-use Rattle.calendar.specs.laws.Days.{years_closed}
+use Rattle.calendar.proofs.laws.Days.{years_closed}
 use Rattle.calendar.proofs.due.days_before_year.Statement.{statement}
 use Rattle.calendar.proofs.due.days_before_year.Tie as tie
 

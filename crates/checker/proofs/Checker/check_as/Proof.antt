@@ -1,7 +1,7 @@
 -- `checker::Checker::check_as` meets its contract. Assumes nothing.
 use mathlib.Core.Path.{sym, ap, ◌∙◌}
 use Rattle.answer.specs.Rules.{first_broken}
-use Rattle.answer.specs.laws.Order.{gone_on, stopped}
+use Rattle.answer.proofs.laws.Order.{gone_on, stopped}
 use Rattle.layout.specs.declared.shapes.Shape.{Shape}
 use Rattle.checker.specs.Line.{house_by, rules_of_type, rules_as}
 use borrow.Author.Rules.{rules}

@@ -1,5 +1,5 @@
 -- `checker::Checker::check_batch_header` meets its contract: its rules, one after the other. Assumes nothing.
-use Rattle.answer.specs.laws.Order.{ahead}
+use Rattle.answer.proofs.laws.Order.{ahead}
 use Rattle.checker.specs.Line.{rules_of_type}
 use Rattle.checker.proofs.Fields.{batch-header}
 use borrow.Author.Rules.{rules}

@@ -2,10 +2,10 @@
 use mathlib.Core.Path.{◌≡◌, ◌∙◌, ap}
 use Prim.Native.Nat.{◌+◌}
 use native.Mathlib.Omega.{arith}
-use Rattle.answer.specs.laws.Order.{ahead, joined_three}
-use Rattle.answer.specs.laws.Sums.{fits}
+use Rattle.answer.proofs.laws.Order.{ahead, joined_three}
+use Rattle.answer.proofs.laws.Sums.{fits}
 use Rattle.checker.specs.Line.{rules_of_type}
-use Rattle.checker.specs.laws.Bounds.{cents-fit, closed_cents_fit}
+use Rattle.checker.proofs.laws.Bounds.{cents-fit, closed_cents_fit}
 use Rattle.checker.proofs.Fields.{to_batch_records, from_batch_records}
 use Rattle.checker.specs.Totals.{record_count}
 use Rattle.walk.specs.declared.Parts.{Parts}

@@ -3,8 +3,8 @@ use mathlib.Core.List.{◌∷◌, []}
 use mathlib.Core.Path.{◌≡◌, sym, ap, ◌∙◌}
 use native.Mathlib.Omega.{arith}
 use Rattle.answer.specs.Rules.{rule, first_broken}
-use Rattle.answer.specs.laws.Order.{ahead, joined}
-use Rattle.checker.specs.laws.Bounds.{payments_fit}
+use Rattle.answer.proofs.laws.Order.{ahead, joined}
+use Rattle.checker.proofs.laws.Bounds.{payments_fit}
 use Rattle.checker.specs.inner.Steps.{detail_head}
 use Rattle.checker.proofs.Fields.{body, segment_rule, behind_head, at_head}
 use Prim.Native.Nat.{ℕ}

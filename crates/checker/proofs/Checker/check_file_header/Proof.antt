@@ -1,6 +1,6 @@
 -- `checker::Checker::check_file_header` meets its contract: its rules, one after the other. Assumes nothing.
 use mathlib.Core.Path.{◌∙◌}
-use Rattle.answer.specs.laws.Order.{ahead}
+use Rattle.answer.proofs.laws.Order.{ahead}
 use Rattle.checker.specs.Line.{rules_of_type}
 use Rattle.checker.proofs.Fields.{file-header}
 use borrow.Author.Rules.{rules}

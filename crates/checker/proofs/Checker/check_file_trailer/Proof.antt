@@ -2,8 +2,8 @@
 use mathlib.Core.Path.{◌≡◌, ◌∙◌, ap}
 use Prim.Native.Nat.{◌+◌}
 use native.Mathlib.Omega.{arith}
-use Rattle.answer.specs.laws.Order.{ahead, joined_three}
-use Rattle.answer.specs.laws.Sums.{fits}
+use Rattle.answer.proofs.laws.Order.{ahead, joined_three}
+use Rattle.answer.proofs.laws.Sums.{fits}
 use Rattle.checker.specs.Line.{rules_of_type}
 use Rattle.checker.proofs.Fields.{to_file_batches, to_file_records, from_file_records}
 use Rattle.checker.specs.Totals.{record_count}

@@ -1,7 +1,7 @@
 -- `checker::Checker::check_front` meets its contract. Assumes nothing.
 use mathlib.Core.Path.{◌∙◌}
 use borrow.Author.Tests.{eq-eqb, ne_eqb}
-use Rattle.answer.specs.laws.Order.{here, past, ahead}
+use Rattle.answer.proofs.laws.Order.{here, past, ahead}
 use borrow.Author.Rules.{rules}
 use Rattle.checker.proofs.Checker.check_front.Statement.{statement}
 use Rattle.checker.proofs.Checker.check_front.Tie as tie

@@ -5,7 +5,7 @@ use mathlib.Core.List.{List}
 use Prim.Native.Nat.{ℕ}
 use Rattle.answer.specs.Rules.{first_broken}
 use Rattle.layout.specs.Records.{shape_of, is_detail}
-use Rattle.layout.specs.laws.Records.{the_only, the-only}
+use Rattle.layout.proofs.laws.Records.{the_only, the-only}
 use Rattle.layout.specs.declared.Record.{Record}
 use Rattle.layout.specs.declared.shapes.Shape.{Shape}
 use Rattle.layout.specs.declared.shapes.LineType.{LineType}

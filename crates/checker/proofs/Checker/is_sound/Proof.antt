@@ -2,7 +2,7 @@
 use Prim.Native.Nat.{◌*◌}
 use native.Mathlib.Omega.{arith}
 use Rattle.answer.specs.Limits.{file_cents}
-use Rattle.answer.specs.laws.Sums.{capped_most, capped_below}
+use Rattle.answer.proofs.laws.Sums.{capped_most, capped_below}
 use Rattle.checker.specs.Totals.{payment_count, cent_sum}
 use Rattle.checker.specs.Line.{most_batches, most_payments}
 use Rattle.checker.specs.Machine.{batch_cents_most, sound}

@@ -1,6 +1,6 @@
 -- `checker::Checker::next_line` meets its contract. Assumes nothing.
 use mathlib.Core.Path.{sym, ◌∙◌}
-use Rattle.checker.specs.laws.Bounds.{bounded}
+use Rattle.checker.proofs.laws.Bounds.{bounded}
 use borrow.Author.Rules.{rules}
 use Rattle.checker.proofs.Checker.next_line.Statement.{statement}
 use Rattle.checker.proofs.Checker.next_line.Tie as tie

@@ -5,7 +5,7 @@ use native.Mathlib.Omega.{arith}
 use borrow.Author.Tests.{not-true, not-false}
 use lib.ListN.{length, length-take}
 use Rattle.checker.specs.Machine.{sound, step_of}
-use Rattle.checker.specs.laws.Bounds.{bounded}
+use Rattle.checker.proofs.laws.Bounds.{bounded}
 use Rattle.checker.proofs.Length.{front_length, from_type, before_type}
 use borrow.Author.Rules.{rules}
 use Rattle.checker.proofs.Checker.step.Statement.{statement}

@@ -3,14 +3,14 @@ use mathlib.Core.Path.{◌≡◌, refl, sym, ap, ◌∙◌}
 use mathlib.Core.List.{List}
 use Prim.Native.Nat.{ℕ}
 use Rattle.answer.specs.Rules.{first_broken, on_line, refused_as}
-use Rattle.answer.specs.laws.Order.{past, here}
+use Rattle.answer.proofs.laws.Order.{past, here}
 use Rattle.answer.specs.declared.Refusal.{Refusal}
 use Rattle.answer.specs.declared.Answer.TheVariants.{Accepted, Refused}
 use Rattle.layout.specs.Table.{type_place}
 use Rattle.layout.specs.declared.Record.{Record}
 use Rattle.checker.specs.Line.{line_is, rules_as, found, reading_rules, type_rules}
 use Rattle.checker.specs.Machine.{line_of, next, stepped, answer_to}
-use Rattle.checker.specs.laws.Bounds.{room}
+use Rattle.checker.proofs.laws.Bounds.{room}
 use Rattle.checker.specs.declared.order.Reading.{Reading}
 use Rattle.checker.specs.declared.order.Reading.TheVariants.{Line, Nothing}
 use Rattle.checker.specs.declared.Checker.{Checker}

@@ -1,7 +1,7 @@
 -- `checker::boletos::amount_fits` meets its contract. Assumes nothing.
 use Prim.Native.Nat.{◌+◌}
 use native.Mathlib.Omega.{arith}
-use Rattle.answer.specs.laws.Sums.{fits}
+use Rattle.answer.proofs.laws.Sums.{fits}
 use borrow.Author.Rules.{rules}
 use Rattle.checker.proofs.boletos.amount_fits.Statement.{statement}
 use Rattle.checker.proofs.boletos.amount_fits.Tie as tie

@@ -1,6 +1,6 @@
 -- `checker::collections::check_collection` meets its contract: its rules, one after the other. Assumes nothing.
 use mathlib.Core.Path.{◌∙◌}
-use Rattle.answer.specs.laws.Order.{ahead}
+use Rattle.answer.proofs.laws.Order.{ahead}
 use Rattle.checker.specs.Line.{collection_rules}
 use borrow.Author.Rules.{rules}
 use Rattle.checker.proofs.collections.check_collection.Statement.{statement}

@@ -1,5 +1,5 @@
 -- `checker::house::check_house` meets its contract. Assumes nothing.
-use Rattle.answer.specs.laws.Order.{done}
+use Rattle.answer.proofs.laws.Order.{done}
 use borrow.Author.Rules.{rules}
 use Rattle.checker.proofs.house.check_house.Statement.{statement}
 use Rattle.checker.proofs.house.check_house.Tie as tie

@@ -1,6 +1,6 @@
 -- `checker::reads::check_number` meets its contract: digits that give another number, and no digits. Assumes nothing.
 use mathlib.Core.Path.{refl, ◌∙◌}
-use Rattle.answer.specs.laws.Order.{here}
+use Rattle.answer.proofs.laws.Order.{here}
 use borrow.Author.Rules.{rules}
 use Rattle.checker.proofs.reads.check_number.Statement.{statement}
 use Rattle.checker.proofs.reads.check_number.Tie as tie

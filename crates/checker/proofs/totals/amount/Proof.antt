@@ -3,7 +3,7 @@ use mathlib.Core.Path.{◌≡◌, refl}
 use Prim.Native.Nat.{◌+◌, ◌-◌}
 use native.Mathlib.Omega.{arith}
 use lib.ListN.{length, take, drop, length-take, length-drop}
-use Rattle.digits.specs.laws.Numerals.{value_lt}
+use Rattle.digits.proofs.laws.Numerals.{value_lt}
 use borrow.Author.Rules.{rules}
 use Rattle.checker.proofs.totals.amount.Statement.{statement}
 use Rattle.checker.proofs.totals.amount.Tie as tie

@@ -1,7 +1,7 @@
 -- `checker::totals::counted` meets its contract. Assumes nothing.
 use mathlib.Core.Bool.{not}
 use Rattle.checker.specs.Totals.{withdraws}
-use Rattle.checker.specs.laws.Sums.{only_tallied}
+use Rattle.checker.proofs.laws.Sums.{only_tallied}
 use borrow.Author.Rules.{rules}
 use Rattle.checker.proofs.totals.counted.Statement.{statement}
 use Rattle.checker.proofs.totals.counted.Tie as tie

@@ -1,5 +1,5 @@
 -- `checker::totals::tally_by` meets its contract. Assumes nothing.
-use Rattle.checker.specs.laws.Sums.{all_tallied}
+use Rattle.checker.proofs.laws.Sums.{all_tallied}
 use borrow.Author.Rules.{rules}
 use Rattle.checker.proofs.totals.tally_by.Statement.{statement}
 use Rattle.checker.proofs.totals.tally_by.Tie as tie

@@ -1,8 +1,8 @@
 -- `digits::check_digit` meets its contract. Assumes nothing.
 use Rattle.std.proofs.Common.{mod-lt, rules}
 use Rattle.digits.specs.Checks.{counts, check_digit}
-use Rattle.digits.specs.laws.Sums.{behind_none}
-use Rattle.digits.specs.laws.Moduli.{base_pos}
+use Rattle.digits.proofs.laws.Sums.{behind_none}
+use Rattle.digits.proofs.laws.Moduli.{base_pos}
 use Rattle.digits.proofs.sealing.check_digit.Statement.{statement}
 use Rattle.digits.proofs.sealing.check_digit.Tie as tie
 

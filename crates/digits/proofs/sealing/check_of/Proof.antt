@@ -1,8 +1,8 @@
 -- `digits::sealing::check_of` meets its contract. Assumes nothing.
 use Rattle.std.proofs.Common.{mod-lt, arith, rules}
 use Rattle.digits.specs.Checks.{base, value_of, counts, check_digit}
-use Rattle.digits.specs.laws.Sums.{weighed_split}
-use Rattle.digits.specs.laws.Moduli.{base_pos}
+use Rattle.digits.proofs.laws.Sums.{weighed_split}
+use Rattle.digits.proofs.laws.Moduli.{base_pos}
 use Rattle.digits.proofs.Small.{rest_small}
 use Rattle.digits.proofs.sealing.check_of.Statement.{statement}
 use Rattle.digits.proofs.sealing.check_of.Tie as tie

@@ -1,6 +1,6 @@
 -- `digits::sealing::weigh` meets its contract. Assumes nothing.
 use Rattle.std.proofs.Common.{arith, rules}
-use Rattle.digits.specs.laws.Moduli.{base_pos}
+use Rattle.digits.proofs.laws.Moduli.{base_pos}
 use Rattle.digits.proofs.sealing.weigh.Statement.{statement}
 use Rattle.digits.proofs.sealing.weigh.Tie as tie
 

@@ -4,7 +4,7 @@ use lib.Seq.{drop-length}
 use Rattle.digits.specs.Digits.{weighed}
 use Rattle.digits.specs.inner.Steps.{behind, most_count}
 use Rattle.digits.specs.Checks.{value_of, counts}
-use Rattle.digits.specs.laws.Sums.{weighed_drop}
+use Rattle.digits.proofs.laws.Sums.{weighed_drop}
 use Rattle.digits.proofs.Small.{counts_small}
 use Rattle.digits.proofs.sealing.weigh_few.Statement.{statement}
 use Rattle.digits.proofs.sealing.weigh_few.Tie as tie

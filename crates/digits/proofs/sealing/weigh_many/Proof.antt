@@ -5,8 +5,8 @@ use lib.Seq.{drop-length}
 use Rattle.digits.specs.Digits.{weighed}
 use Rattle.digits.specs.inner.Steps.{behind}
 use Rattle.digits.specs.Checks.{base, value_of, counts}
-use Rattle.digits.specs.laws.Sums.{turn}
-use Rattle.digits.specs.laws.Moduli.{base_pos}
+use Rattle.digits.proofs.laws.Sums.{turn}
+use Rattle.digits.proofs.laws.Moduli.{base_pos}
 use Rattle.digits.proofs.Small.{counts_small, rest_small}
 use Rattle.digits.proofs.sealing.weigh_many.Statement.{statement}
 use Rattle.digits.proofs.sealing.weigh_many.Tie as tie

@@ -4,7 +4,7 @@ use native.Mathlib.Nat.{sub_self}
 use lib.Seq.{drop-length}
 use Rattle.digits.specs.Digits.{weighed}
 use Rattle.digits.specs.Numbers.{number}
-use Rattle.digits.specs.laws.Numerals.{number_turn, below_more, below_limit}
+use Rattle.digits.proofs.laws.Numerals.{number_turn, below_more, below_limit}
 use Rattle.digits.proofs.spelling.spelled.Statement.{statement}
 use Rattle.digits.proofs.spelling.spelled.Tie as tie
 

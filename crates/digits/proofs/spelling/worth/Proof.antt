@@ -1,7 +1,7 @@
 -- `digits::spelling::worth` meets its contract: below 10 the difference did not wrap, and from 10 on the byte is no digit. Assumes nothing.
 use Rattle.std.proofs.Common.{◌≡◌, ℕ, ◌+◌, ◌-◌, ◌%◌, ◌^◌, ◌<◌, ◌≤◌, Bool, true, false, cond, sym, refl, ◌∙◌, arith, rules}
 use Rattle.digits.specs.Digits.{is_digit, digit_of}
-use Rattle.digits.specs.laws.Strings.{digit_is, digit_value}
+use Rattle.digits.proofs.laws.Strings.{digit_is, digit_value}
 use Rattle.digits.proofs.spelling.worth.Statement.{statement}
 use Rattle.digits.proofs.spelling.worth.Tie as tie
 

@@ -6,7 +6,7 @@ use borrow.Author.Rules.{rules}
 use borrow.Author.Tests.{lt-ltb, le-ltb, not-true, not-false}
 use lib.ListN.{length}
 use Rattle.layout.specs.Table.{fields_of}
-use Rattle.fields.specs.laws.Parts.{few}
+use Rattle.fields.proofs.laws.Parts.{few}
 use Rattle.fields.proofs.Fields.number_at.Statement.{statement}
 use Rattle.fields.proofs.Fields.number_at.Tie as tie
 

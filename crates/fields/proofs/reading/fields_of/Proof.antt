@@ -10,9 +10,9 @@ use lib.Seq.{slice}
 use Rattle.layout.specs.inner.Lent.{field_count}
 use Rattle.layout.specs.Field.{Field}
 use Rattle.layout.specs.Table.{fields_of, fields_of_each, all}
-use Rattle.layout.specs.laws.Columns.{fields_there, first_is, past_is, in_order, in_table}
+use Rattle.layout.proofs.laws.Columns.{fields_there, first_is, past_is, in_order, in_table}
 use Rattle.fields.specs.Values.{most_fields, is_given, or_zero, read_at, fields_in}
-use Rattle.fields.specs.laws.Parts.{few, narrow}
+use Rattle.fields.proofs.laws.Parts.{few, narrow}
 use Rattle.fields.proofs.Store.{store_fields, store_more, store_end, store_record}
 use Rattle.fields.proofs.reading.fields_of.Statement.{statement}
 use Rattle.fields.proofs.reading.fields_of.Tie as tie

@@ -2,7 +2,7 @@
 use mathlib.Core.Path.{sym, ◌∙◌}
 use borrow.Author.Rules.{rules}
 use Rattle.fields.specs.Values.{read_record}
-use Rattle.fields.specs.laws.Kept.{right_length}
+use Rattle.fields.proofs.laws.Kept.{right_length}
 use Rattle.fields.proofs.reading.read_record.Statement.{statement}
 use Rattle.fields.proofs.reading.read_record.Tie as tie
 

@@ -1,7 +1,7 @@
 -- `fields::reading::text_of` meets its contract. Assumes nothing.
 use mathlib.Core.Path.{◌∙◌}
 use borrow.Author.Rules.{rules}
-use Rattle.layout.specs.laws.Bytes.{over_all}
+use Rattle.layout.proofs.laws.Bytes.{over_all}
 use Rattle.fields.proofs.reading.text_of.Statement.{statement}
 use Rattle.fields.proofs.reading.text_of.Tie as tie
 

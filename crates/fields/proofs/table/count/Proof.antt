@@ -1,7 +1,7 @@
 -- `fields::table::count` meets its contract. Assumes nothing.
 use native.Mathlib.Omega.{arith}
 use borrow.Author.Rules.{rules}
-use Rattle.layout.specs.laws.Columns.{first_is, past_is, in_order}
+use Rattle.layout.proofs.laws.Columns.{first_is, past_is, in_order}
 use Rattle.fields.proofs.table.count.Statement.{statement}
 use Rattle.fields.proofs.table.count.Tie as tie
 

@@ -5,7 +5,7 @@ use native.Mathlib.Omega.{arith}
 use borrow.Author.Rules.{rules}
 use Rattle.layout.specs.inner.Lent.{field_count}
 use Rattle.layout.specs.Table.{fields_of, fields_of_each, all}
-use Rattle.layout.specs.laws.Columns.{first_is, past_is, in_table}
+use Rattle.layout.proofs.laws.Columns.{first_is, past_is, in_table}
 use Rattle.fields.proofs.table.entry_of.Statement.{statement}
 use Rattle.fields.proofs.table.entry_of.Tie as tie
 

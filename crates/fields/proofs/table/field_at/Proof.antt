@@ -1,6 +1,6 @@
 -- `fields::table::field_at` meets its contract, by the law on the table's columns. Assumes nothing.
 use borrow.Author.Rules.{rules}
-use Rattle.layout.specs.laws.Columns.{column}
+use Rattle.layout.proofs.laws.Columns.{column}
 use Rattle.fields.proofs.table.field_at.Statement.{statement}
 use Rattle.fields.proofs.table.field_at.Tie as tie
 

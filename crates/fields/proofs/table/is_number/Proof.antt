@@ -5,7 +5,7 @@ use borrow.Author.Tests.{lt-ltb, le-ltb}
 use Rattle.layout.specs.inner.Lent.{kind_of}
 use Rattle.layout.specs.Field.{Field}
 use Rattle.layout.specs.Kinds.{means}
-use Rattle.layout.specs.laws.Columns.{in_record}
+use Rattle.layout.proofs.laws.Columns.{in_record}
 use Rattle.fields.specs.Values.{held_as, is_number, is_number_at}
 use Rattle.fields.proofs.Fills.{as_number, as_text, as-fixed}
 use Rattle.fields.proofs.table.is_number.Statement.{statement}

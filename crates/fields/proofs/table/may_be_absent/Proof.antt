@@ -4,7 +4,7 @@ use borrow.Author.Rules.{rules}
 use borrow.Author.Tests.{lt-ltb, le-ltb}
 use Rattle.layout.specs.Field.{Field}
 use Rattle.layout.specs.Kinds.{may_be_absent}
-use Rattle.layout.specs.laws.Columns.{in_record}
+use Rattle.layout.proofs.laws.Columns.{in_record}
 use Rattle.fields.specs.Values.{held_as}
 use Rattle.fields.proofs.table.may_be_absent.Statement.{statement}
 use Rattle.fields.proofs.table.may_be_absent.Tie as tie

@@ -5,7 +5,7 @@ use borrow.Author.Rules.{rules}
 use borrow.Author.Tests.{lt-ltb, le-ltb}
 use Rattle.layout.specs.inner.Lent.{kind_of}
 use Rattle.layout.specs.Field.{Field, field}
-use Rattle.layout.specs.laws.Columns.{in_record}
+use Rattle.layout.proofs.laws.Columns.{in_record}
 use Rattle.fields.specs.Values.{over_field}
 use Rattle.fields.proofs.Put.{put_over}
 use Rattle.fields.proofs.text.text_with.Statement.{statement}

@@ -11,10 +11,10 @@ use Rattle.digits.specs.declared.spelling.Number.{Number}
 use Rattle.layout.specs.inner.Lent.{field_count, kind_of}
 use Rattle.layout.specs.Kinds.{means}
 use Rattle.layout.specs.Table.{record_bytes, all}
-use Rattle.layout.specs.laws.Bytes.{length_places}
-use Rattle.layout.specs.laws.Columns.{fields_there, first_is, past_is, in_order, in_table}
+use Rattle.layout.proofs.laws.Bytes.{length_places}
+use Rattle.layout.proofs.laws.Columns.{fields_there, first_is, past_is, in_order, in_table}
 use Rattle.fields.specs.Values.{most_fields, rendered, record_of}
-use Rattle.fields.specs.laws.Parts.{narrow}
+use Rattle.fields.proofs.laws.Parts.{narrow}
 use Rattle.fields.proofs.Put.{put_fields, numbered, put_more, put_end, put_record}
 use Rattle.fields.proofs.writing.render.Statement.{statement}
 use Rattle.fields.proofs.writing.render.Tie as tie

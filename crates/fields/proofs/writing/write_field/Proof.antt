@@ -2,7 +2,7 @@
 use mathlib.Core.Path.{sym, ap, ◌∙◌}
 use borrow.Author.Rules.{rules}
 use Rattle.layout.specs.Kinds.{Held}
-use Rattle.layout.specs.laws.Bytes.{over_all}
+use Rattle.layout.proofs.laws.Bytes.{over_all}
 use Rattle.fields.specs.Values.{rendered}
 use Rattle.fields.proofs.Fills.{as_number, as_text, as-fixed}
 use Rattle.fields.proofs.writing.write_field.Statement.{statement}

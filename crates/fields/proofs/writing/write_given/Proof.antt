@@ -3,7 +3,7 @@ use mathlib.Core.Path.{◌∙◌}
 use borrow.Author.Rules.{rules}
 use lib.ListN.{length}
 use Rattle.layout.specs.Kinds.{blank}
-use Rattle.layout.specs.laws.Contents.{run_is}
+use Rattle.layout.proofs.laws.Contents.{run_is}
 use Rattle.fields.proofs.writing.write_given.Statement.{statement}
 use Rattle.fields.proofs.writing.write_given.Tie as tie
 

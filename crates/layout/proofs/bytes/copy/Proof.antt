@@ -6,7 +6,7 @@ use native.Mathlib.Numerals.{add-one}
 use borrow.Author.Rules.{rules}
 use lib.ListN.{length, take, drop, length-set}
 use Rattle.answer.specs.Output.{over}
-use Rattle.layout.specs.laws.Bytes.{over_turn, over_end_text, over_end_out}
+use Rattle.layout.proofs.laws.Bytes.{over_turn, over_end_text, over_end_out}
 use Rattle.layout.proofs.bytes.copy.Statement.{statement}
 use Rattle.layout.proofs.bytes.copy.Tie as tie
 

@@ -1,6 +1,6 @@
 -- `layout::kinds::fill_of` meets its contract: in each arm the kind's row computes. Assumes nothing.
 use mathlib.Core.Path.{sym}
-use Rattle.layout.specs.laws.Contents.{mark_fill, other_kind, none_below}
+use Rattle.layout.proofs.laws.Contents.{mark_fill, other_kind, none_below}
 use Rattle.layout.specs.inner.Lent.{kind_count}
 use Rattle.layout.proofs.kinds.fill_of.Statement.{statement}
 use Rattle.layout.proofs.kinds.fill_of.Tie as tie

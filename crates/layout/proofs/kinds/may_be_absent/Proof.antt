@@ -1,6 +1,6 @@
 -- `layout::kinds::may_be_absent` meets its contract. Assumes nothing.
 use mathlib.Core.Path.{sym}
-use Rattle.layout.specs.laws.Contents.{absent_is}
+use Rattle.layout.proofs.laws.Contents.{absent_is}
 use Rattle.layout.proofs.kinds.may_be_absent.Statement.{statement}
 use Rattle.layout.proofs.kinds.may_be_absent.Tie as tie
 

@@ -1,5 +1,5 @@
 -- `layout::names::bank` meets its contract. Assumes nothing.
-use Rattle.layout.specs.laws.Indexes.{bank-index}
+use Rattle.layout.proofs.laws.Indexes.{bank-index}
 use Rattle.layout.proofs.names.bank.Statement.{statement}
 use Rattle.layout.proofs.names.bank.Tie as tie
 

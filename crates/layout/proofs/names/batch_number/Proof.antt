@@ -1,5 +1,5 @@
 -- `layout::names::batch_number` meets its contract. Assumes nothing.
-use Rattle.layout.specs.laws.Indexes.{batch-index}
+use Rattle.layout.proofs.laws.Indexes.{batch-index}
 use Rattle.layout.proofs.names.batch_number.Statement.{statement}
 use Rattle.layout.proofs.names.batch_number.Tie as tie
 

@@ -1,5 +1,5 @@
 -- `layout::names::detail_number` meets its contract. Assumes nothing.
-use Rattle.layout.specs.laws.Indexes.{number-index}
+use Rattle.layout.proofs.laws.Indexes.{number-index}
 use Rattle.layout.proofs.names.detail_number.Statement.{statement}
 use Rattle.layout.proofs.names.detail_number.Tie as tie
 

@@ -3,7 +3,7 @@ use mathlib.Core.Path.{refl, sym, ◌∙◌}
 use borrow.Author.Rules.{rules}
 use Rattle.digits.specs.Numbers.{number_of}
 use Rattle.layout.specs.Pairs.{pairs}
-use Rattle.layout.specs.laws.Bytes.{no_service, no_form, batch_is}
+use Rattle.layout.proofs.laws.Bytes.{no_service, no_form, batch_is}
 use Rattle.layout.proofs.pairs.batch_of.Statement.{statement}
 use Rattle.layout.proofs.pairs.batch_of.Tie as tie
 

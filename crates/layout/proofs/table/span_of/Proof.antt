@@ -4,8 +4,8 @@ use Prim.Native.Nat.{ℕ, ◌<◌}
 use borrow.Author.Rules.{rules}
 use native.Mathlib.Omega.{arith}
 use Rattle.layout.specs.inner.Lent.{span_of}
-use Rattle.layout.specs.laws.Columns.{starts, span_in, starts_are}
-use Rattle.layout.specs.laws.Records.{tabled}
+use Rattle.layout.proofs.laws.Columns.{starts, span_in, starts_are}
+use Rattle.layout.proofs.laws.Records.{tabled}
 use Rattle.layout.specs.Records.{shape_of}
 use Rattle.layout.specs.declared.Record.{Record}
 use Rattle.layout.specs.declared.shapes.Shape.{Shape}

@@ -4,7 +4,7 @@ use Prim.Native.Nat.{◌+◌, ◌-◌}
 use native.Mathlib.Omega.{arith}
 use borrow.Author.Rules.{rules}
 use lib.ListN.{length, take, drop, length-take, length-drop}
-use Rattle.digits.specs.laws.Numerals.{given_lt}
+use Rattle.digits.proofs.laws.Numerals.{given_lt}
 use Rattle.probe.proofs.header.announced.Statement.{statement}
 use Rattle.probe.proofs.header.announced.Tie as tie
 

@@ -1,6 +1,6 @@
 -- `probe::records::count` meets its contract. Assumes nothing.
 use borrow.Author.Rules.{rules}
-use Rattle.fields.specs.laws.Parts.{few}
+use Rattle.fields.proofs.laws.Parts.{few}
 use Rattle.probe.proofs.records.count.Statement.{statement}
 use Rattle.probe.proofs.records.count.Tie as tie
 

@@ -9,9 +9,9 @@ use native.Mathlib.Numerals.{add-one}
 use borrow.Author.Rules.{rules}
 use borrow.Author.Tests.{not-true, not-false, eq-eqb, ne_eqb}
 use lib.ListN.{length, get_or, drop, drop_of_length-le}
-use Rattle.answer.specs.laws.Order.{past, here, done}
+use Rattle.answer.proofs.laws.Order.{past, here, done}
 use Rattle.layout.specs.Record.{printable, clean}
-use Rattle.layout.specs.laws.Bytes.{clean_turn}
+use Rattle.layout.proofs.laws.Bytes.{clean_turn}
 use Rattle.walk.proofs.bytes.check_bytes.Statement.{statement}
 use Rattle.walk.proofs.bytes.check_bytes.Tie as tie
 

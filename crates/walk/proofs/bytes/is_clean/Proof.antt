@@ -6,8 +6,8 @@ use native.Mathlib.Numerals.{add-one}
 use borrow.Author.Rules.{rules}
 use lib.ListN.{length, drop, drop_of_length-le}
 use Rattle.layout.specs.Record.{clean, all_printable}
-use Rattle.digits.specs.laws.Tests.{and_regroup}
-use Rattle.layout.specs.laws.Bytes.{printable_turn}
+use Rattle.digits.proofs.laws.Tests.{and_regroup}
+use Rattle.layout.proofs.laws.Bytes.{printable_turn}
 use Rattle.walk.proofs.bytes.is_clean.Statement.{statement}
 use Rattle.walk.proofs.bytes.is_clean.Tie as tie
 

@@ -1,7 +1,7 @@
 -- `walk::looks::barcode` meets its contract. Assumes nothing.
 use mathlib.Core.Path.{◌∙◌}
 use borrow.Author.Rules.{rules}
-use Rattle.answer.specs.laws.Order.{one_then}
+use Rattle.answer.proofs.laws.Order.{one_then}
 use Rattle.walk.proofs.looks.barcode.Statement.{statement}
 use Rattle.walk.proofs.looks.barcode.Tie as tie
 

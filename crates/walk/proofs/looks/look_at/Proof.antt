@@ -2,11 +2,11 @@
 use mathlib.Core.Path.{refl, ◌∙◌}
 use mathlib.Core.List.{[], ◌∷◌}
 use borrow.Author.Rules.{rules}
-use Rattle.answer.specs.laws.Order.{done}
+use Rattle.answer.proofs.laws.Order.{done}
 use Rattle.layout.specs.inner.Lent.{kind_count}
 use Rattle.layout.specs.Kinds.{run, text, blank}
 use Rattle.walk.specs.inner.Steps.{for_digits, tested}
-use Rattle.layout.specs.laws.Contents.{none_below, other_kind, run_is, exact_is}
+use Rattle.layout.proofs.laws.Contents.{none_below, other_kind, run_is, exact_is}
 use Rattle.layout.specs.declared.fixed.Content.TheVariants.{LetterC, Code09, Code52}
 use Rattle.walk.proofs.Rows.{of_kind, at_key, for_blank, for_number_or_blank, for_fixed, for_mark}
 use Rattle.walk.proofs.looks.look_at.Statement.{statement}

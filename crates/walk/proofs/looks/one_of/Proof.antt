@@ -6,7 +6,7 @@ use borrow.Author.Rules.{rules}
 use borrow.Author.Tests.{eq-eqb, ne_eqb}
 use lib.ListN.{length, get_or, drop, drop_of_length-le}
 use Rattle.layout.specs.Pairs.{among}
-use Rattle.layout.specs.laws.Bytes.{among_turn}
+use Rattle.layout.proofs.laws.Bytes.{among_turn}
 use Rattle.walk.proofs.looks.one_of.Statement.{statement}
 use Rattle.walk.proofs.looks.one_of.Tie as tie
 

@@ -7,8 +7,8 @@ use borrow.Author.Rules.{rules}
 use lib.ListN.{drop, drop_of_length-le}
 use Rattle.layout.specs.Table.{record_bytes}
 use Rattle.walk.specs.inner.Masks.{within}
-use Rattle.digits.specs.laws.Tests.{and_regroup}
-use Rattle.walk.specs.laws.Masks.{within_turn}
+use Rattle.digits.proofs.laws.Tests.{and_regroup}
+use Rattle.walk.proofs.laws.Masks.{within_turn}
 use Rattle.walk.proofs.masks.fits.Statement.{statement}
 use Rattle.walk.proofs.masks.fits.Tie as tie
 

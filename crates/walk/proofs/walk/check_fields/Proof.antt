@@ -4,11 +4,11 @@ use Prim.Native.Nat.{min}
 use native.Mathlib.Omega.{arith}
 use borrow.Author.Rules.{rules}
 use lib.ListN.{length}
-use Rattle.answer.specs.laws.Order.{done}
+use Rattle.answer.proofs.laws.Order.{done}
 use Rattle.layout.specs.Table.{fields_of}
 use Rattle.layout.specs.Record.{rules_of}
-use Rattle.layout.specs.laws.Columns.{first_is, in_order, in_table, many_is, some_fields, no_fields_left}
-use Rattle.walk.specs.laws.Masks.{right_at}
+use Rattle.layout.proofs.laws.Columns.{first_is, in_order, in_table, many_is, some_fields, no_fields_left}
+use Rattle.walk.proofs.laws.Masks.{right_at}
 use Rattle.walk.proofs.walk.check_fields.Statement.{statement}
 use Rattle.walk.proofs.walk.check_fields.Tie as tie
 

@@ -3,7 +3,7 @@ use mathlib.Core.Path.{◌≡◌, sym, ap, ◌∙◌}
 use native.Mathlib.Omega.{arith}
 use borrow.Author.Rules.{rules}
 use borrow.Author.Tests.{not-true, not-false}
-use Rattle.layout.specs.laws.Columns.{type_there, segment_there, first_is, marks_in_table}
+use Rattle.layout.proofs.laws.Columns.{type_there, segment_there, first_is, marks_in_table}
 use Rattle.layout.specs.Records.{shape_of, is_detail}
 use Rattle.layout.specs.declared.shapes.Shape.{Shape}
 use Rattle.walk.proofs.Rounds.{type_alone, type_then}

@@ -1,7 +1,7 @@
 -- `walk::walk::field_at` meets its contract, by the law on the table's columns. Assumes nothing.
 use borrow.Author.Rules.{rules}
 use borrow.Author.Tests.{lt-ltb}
-use Rattle.layout.specs.laws.Columns.{column}
+use Rattle.layout.proofs.laws.Columns.{column}
 use Rattle.walk.proofs.walk.field_at.Statement.{statement}
 use Rattle.walk.proofs.walk.field_at.Tie as tie
 

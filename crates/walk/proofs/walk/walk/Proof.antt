@@ -17,7 +17,7 @@ use Rattle.layout.specs.Table.{all}
 use Rattle.layout.specs.inner.Lent.{kind_of, is_whole}
 use Rattle.layout.specs.Kinds.{a_part, means}
 use Rattle.layout.specs.Record.{rules_of}
-use Rattle.layout.specs.laws.Bytes.{and_left, and_right, length_places}
+use Rattle.layout.proofs.laws.Bytes.{and_left, and_right, length_places}
 use Rattle.layout.specs.declared.Direction.{Direction}
 use Rattle.layout.specs.declared.table.Entry.{Entry}
 use Rattle.walk.proofs.Rows.{digits_looked, content_looked, was_tested}

@@ -1,12 +1,12 @@
 -- `writer::Writer::close_file` meets its contract. Assumes nothing.
 use Rattle.answer.specs.Rules.{first_broken}
-use Rattle.answer.specs.laws.Order.{done}
+use Rattle.answer.proofs.laws.Order.{done}
 use Rattle.layout.specs.declared.Record.TheVariants.{FileTrailer}
 use Rattle.writer.proofs.Answering.{turn_is, turned, whole_call, one_expected}
 use Rattle.fields.specs.Values.{taken_as}
 use Rattle.writer.specs.Given.{close_file}
 use Rattle.writer.specs.Refusals.{turn_rules}
-use Rattle.writer.specs.laws.TakesCall.{end_may}
+use Rattle.writer.proofs.laws.TakesCall.{end_may}
 use borrow.Author.Rules.{rules}
 use mathlib.Core.List.{[], ◌∷◌}
 use mathlib.Core.Path.{◌≡◌, ◌∙◌}

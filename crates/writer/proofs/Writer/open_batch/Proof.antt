@@ -5,7 +5,7 @@ use Rattle.writer.proofs.Answering.{turn_is, turned, whole_call, one_expected}
 use Rattle.fields.specs.Values.{taken_as}
 use Rattle.writer.specs.Given.{open_batch}
 use Rattle.writer.specs.Refusals.{turn_rules}
-use Rattle.writer.specs.laws.TakesCall.{batch_may}
+use Rattle.writer.proofs.laws.TakesCall.{batch_may}
 use borrow.Author.Rules.{rules}
 use mathlib.Core.List.{[], ◌∷◌}
 use mathlib.Core.Path.{◌≡◌, ◌∙◌}

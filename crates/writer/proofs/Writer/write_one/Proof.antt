@@ -4,7 +4,7 @@ use Prim.Native.Nat.{ℕ}
 use Rattle.answer.specs.Output.{room}
 use Rattle.answer.specs.Rules.{first_broken, rules_on_line}
 use Rattle.answer.specs.declared.Answer.TheVariants.{Accepted}
-use Rattle.answer.specs.laws.Order.{joined, first_on_line, front_accepted}
+use Rattle.answer.proofs.laws.Order.{joined, first_on_line, front_accepted}
 use Rattle.checker.specs.Machine.{line_of}
 use Rattle.writer.proofs.Answering.{turned_away, refuses, accepts, has_room}
 use Rattle.writer.proofs.Lent.{whole, lent}

@@ -5,8 +5,8 @@ use Rattle.answer.specs.Output.{room}
 use Rattle.answer.specs.Rules.{first_broken, rules_on_line}
 use Rattle.answer.specs.Rules.{on_line}
 use Rattle.answer.specs.declared.Answer.TheVariants.{Accepted}
-use Rattle.answer.specs.laws.Order.{ahead, front_accepted}
-use Rattle.answer.specs.laws.Order.{joined, first_on_line}
+use Rattle.answer.proofs.laws.Order.{ahead, front_accepted}
+use Rattle.answer.proofs.laws.Order.{joined, first_on_line}
 use Rattle.checker.specs.Machine.{line_of}
 use Rattle.writer.proofs.Answering.{turned_away, refuses, accepts, has_room}
 use Rattle.writer.proofs.Held.{held_sound}

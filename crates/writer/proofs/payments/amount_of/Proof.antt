@@ -1,7 +1,7 @@
 -- `writer::payments::amount_of` meets its contract. Assumes nothing.
 use mathlib.Core.Path.{◌≡◌, refl, sym, ap, ◌∙◌}
 use Rattle.layout.specs.Records.{shape_of}
-use Rattle.layout.specs.laws.Records.{by_amount}
+use Rattle.layout.proofs.laws.Records.{by_amount}
 use Rattle.layout.specs.declared.Record.{Record}
 use Rattle.layout.specs.declared.Record.TheVariants.{SegmentA, SegmentJ, SegmentO}
 use Rattle.layout.specs.declared.shapes.Shape.{Shape}

@@ -1,8 +1,8 @@
 -- `writer::payments::check_sum` meets its contract. Assumes nothing.
 use mathlib.Core.Path.{◌≡◌, ◌∙◌}
 use Prim.Native.Nat.{◌+◌}
-use Rattle.answer.specs.laws.Sums.{fits}
-use Rattle.checker.specs.laws.Bounds.{bounded, cents-fit, closed_cents_fit}
+use Rattle.answer.proofs.laws.Sums.{fits}
+use Rattle.checker.proofs.laws.Bounds.{bounded, cents-fit, closed_cents_fit}
 use Rattle.checker.specs.Totals.{cent_sum}
 use borrow.Author.Rules.{rules}
 use native.Mathlib.Omega.{arith}

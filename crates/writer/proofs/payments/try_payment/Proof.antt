@@ -6,7 +6,7 @@ use lib.ListN.{length}
 use borrow.Author.Rules.{rules}
 use Rattle.writer.specs.Given.{records_in}
 use Rattle.writer.specs.inner.Steps.{nth_in, expected_at, Tries}
-use Rattle.writer.specs.laws.Paying.{may_try}
+use Rattle.writer.proofs.laws.Paying.{may_try}
 use Rattle.writer.proofs.Trying.{Going, going_first, going_stopped, going_on, gone_through}
 use Rattle.writer.proofs.payments.try_payment.Statement.{statement}
 use Rattle.writer.proofs.payments.try_payment.Tie as tie

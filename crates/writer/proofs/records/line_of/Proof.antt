@@ -2,7 +2,7 @@
 use mathlib.Core.Path.{◌≡◌, ap, ◌∙◌}
 use borrow.Author.Rules.{rules}
 use lib.ListN.{length, replicate, length-map}
-use Rattle.layout.specs.laws.Bytes.{over_all}
+use Rattle.layout.proofs.laws.Bytes.{over_all}
 use Rattle.writer.proofs.Lent.{line_over}
 use Rattle.writer.proofs.records.line_of.Statement.{statement}
 use Rattle.writer.proofs.records.line_of.Tie as tie

@@ -6,7 +6,7 @@ use Rattle.fields.specs.Values.{made_of}
 use Rattle.fields.specs.declared.Fields.{Fields}
 use Rattle.filling.specs.Filling.{filled}
 use Rattle.fields.specs.Values.{Whole}
-use Rattle.filling.specs.laws.Filled.{filled_which}
+use Rattle.filling.proofs.laws.Filled.{filled_which}
 use Rattle.writer.specs.inner.Steps.{kind_answer}
 use Rattle.writer.proofs.Trying.{tried_refused, tried_accepted}
 use Rattle.writer.proofs.records.try_record.Statement.{statement}

@@ -1,11 +1,11 @@
 -- `writer::turns::batch_limits` meets its contract. Assumes nothing.
-use Rattle.answer.specs.laws.Order.{ahead}
+use Rattle.answer.proofs.laws.Order.{ahead}
 use Rattle.writer.proofs.Held.{below}
 use borrow.Author.Rules.{rules}
 use mathlib.Core.Path.{◌≡◌, ◌∙◌}
 use Prim.Native.Nat.{◌+◌}
 use native.Mathlib.Omega.{arith}
-use Rattle.answer.specs.laws.Sums.{fits}
+use Rattle.answer.proofs.laws.Sums.{fits}
 use Rattle.writer.specs.Refusals.{kind_given, least_details, trailers}
 use Rattle.writer.proofs.turns.batch_limits.Statement.{statement}
 use Rattle.writer.proofs.turns.batch_limits.Tie as tie

@@ -4,7 +4,7 @@ use native.Mathlib.Omega.{arith}
 use Rattle.checker.specs.Totals.{record_count}
 use borrow.Author.Rules.{rules}
 use Rattle.answer.specs.Limits.{most_records}
-use Rattle.answer.specs.laws.Sums.{capped_within}
+use Rattle.answer.proofs.laws.Sums.{capped_within}
 use Rattle.writer.proofs.turns.fits_file.Statement.{statement}
 use Rattle.writer.proofs.turns.fits_file.Tie as tie
 use Rattle.checker.specs.Totals.{record_count}

@@ -1,5 +1,5 @@
 -- `writer::turns::is_held` meets its contract. Assumes nothing.
-use Rattle.checker.specs.laws.Bounds.{bounded, payments_fit, cents-fit, closed_cents_fit}
+use Rattle.checker.proofs.laws.Bounds.{bounded, payments_fit, cents-fit, closed_cents_fit}
 use Rattle.writer.specs.Refusals.{held}
 use borrow.Author.Rules.{rules}
 use borrow.Author.Tests.{not-true, not-false}

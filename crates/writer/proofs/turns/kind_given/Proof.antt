@@ -7,7 +7,7 @@ use Rattle.layout.specs.Pairs.{pairs, batch_among}
 use Rattle.layout.specs.Table.{fields_of, service_field, form_field}
 use Rattle.layout.specs.declared.Record.TheVariants.{BatchHeader}
 use Rattle.fields.specs.Values.{number_at}
-use Rattle.layout.specs.laws.Bytes.{no_service, no_form}
+use Rattle.layout.proofs.laws.Bytes.{no_service, no_form}
 use Rattle.writer.proofs.turns.kind_given.Statement.{statement}
 use Rattle.writer.proofs.turns.kind_given.Tie as tie
 

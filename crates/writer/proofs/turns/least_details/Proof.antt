@@ -2,8 +2,8 @@
 use mathlib.Core.Path.{◌∙◌}
 use native.Mathlib.Omega.{arith}
 use borrow.Author.Rules.{rules}
-use Rattle.checker.specs.laws.Payments.{brief}
-use Rattle.writer.specs.laws.KindGiven.{least_named, least_unnamed}
+use Rattle.checker.proofs.laws.Payments.{brief}
+use Rattle.writer.proofs.laws.KindGiven.{least_named, least_unnamed}
 use Rattle.writer.proofs.turns.least_details.Statement.{statement}
 use Rattle.writer.proofs.turns.least_details.Tie as tie
 

@@ -1,6 +1,6 @@
 -- `writer::turns::payment_limits` meets its contract. Assumes nothing.
-use Rattle.answer.specs.laws.Order.{ahead}
-use Rattle.answer.specs.laws.Sums.{fits, capped_below}
+use Rattle.answer.proofs.laws.Order.{ahead}
+use Rattle.answer.proofs.laws.Sums.{fits, capped_below}
 use Rattle.checker.specs.Totals.{payment_count}
 use Rattle.checker.specs.Line.{most_payments}
 use Prim.Native.Nat.{◌+◌}

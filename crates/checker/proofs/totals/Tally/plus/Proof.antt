@@ -1,5 +1,5 @@
 -- `checker::totals::Tally::plus` meets its contract. Assumes nothing.
-use Rattle.answer.specs.laws.Sums.{fits}
+use Rattle.answer.proofs.laws.Sums.{fits}
 use borrow.Author.Rules.{rules}
 use Rattle.checker.proofs.totals.Tally.plus.Statement.{statement}
 use Rattle.checker.proofs.totals.Tally.plus.Tie as tie

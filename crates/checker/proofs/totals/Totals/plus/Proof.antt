@@ -1,6 +1,6 @@
 -- `checker::totals::Totals::plus` meets its contract. Assumes nothing.
 use native.Mathlib.Omega.{arith}
-use Rattle.answer.specs.laws.Sums.{fits}
+use Rattle.answer.proofs.laws.Sums.{fits}
 use Rattle.checker.specs.Totals.{add}
 use borrow.Author.Rules.{rules}
 use Rattle.checker.proofs.totals.Totals.plus.Statement.{statement}

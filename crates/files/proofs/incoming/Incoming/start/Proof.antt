@@ -1,7 +1,7 @@
 -- `files::incoming::Incoming::start` meets its contract. Assumes nothing.
 use borrow.Author.Rules.{rules}
 use Rattle.files.specs.Parts.{arrive}
-use Rattle.files.specs.laws.Runs.{no_lines}
+use Rattle.files.proofs.laws.Runs.{no_lines}
 use Rattle.files.proofs.incoming.Incoming.start.Statement.{statement}
 use Rattle.files.proofs.incoming.Incoming.start.Tie as tie
 

@@ -6,8 +6,8 @@ use borrow.Author.Rules.{rules}
 use lib.ListN.{length, take, drop, length-set}
 use Rattle.answer.specs.Output.{over}
 use Rattle.layout.specs.inner.Lent.{content_of}
-use Rattle.layout.specs.laws.Bytes.{over_all, over_end_out}
-use Rattle.layout.specs.laws.Contents.{length_tab}
+use Rattle.layout.proofs.laws.Bytes.{over_all, over_end_out}
+use Rattle.layout.proofs.laws.Contents.{length_tab}
 use Rattle.layout.proofs.Written.{written_more}
 use Rattle.layout.proofs.fixed.Content.write.Statement.{statement}
 use Rattle.layout.proofs.fixed.Content.write.Tie as tie

@@ -2,7 +2,7 @@
 use mathlib.Core.Path.{sym}
 use native.Mathlib.Omega.{arith}
 use borrow.Author.Rules.{rules}
-use Rattle.writer.specs.laws.Given.{the_third}
+use Rattle.writer.proofs.laws.Given.{the_third}
 use Rattle.writer.proofs.given.Payment.record_at.Statement.{statement}
 use Rattle.writer.proofs.given.Payment.record_at.Tie as tie
 

@@ -1,0 +1,2 @@
+-- What is proved of the definitions, and what the proofs of this crate's functions share.
+pub mod laws
