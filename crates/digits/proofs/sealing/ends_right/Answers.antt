@@ -1,0 +1,11 @@
+-- `digits::sealing::ends_right` meets its contract. Assumes nothing.
+use Rattle.std.proofs.Common.{sym, rules}
+use native.Mathlib.Nat.{sub-zero}
+use Rattle.digits.proofs.Small.{ends_wrong}
+use Rattle.digits.proofs.sealing.ends_right.Goals as goal
+
+pub returns-then-s-eq0 : goal.returns-then-s-eq0
+returns-then-s-eq0 c = let a = c.args in sym (ends_wrong a.m a.s.now c.if-s-eq0.true)
+
+pub returns : goal.returns
+returns c = rw (c.check_digit-check.ensures, sub-zero)

@@ -1,0 +1,16 @@
+use Rattle.std.proofs.Common.{◌≡◌, ℕ, ◌+◌, ◌-◌, ◌%◌, ◌≤◌, length, drop, sym, ap, ◌∙◌, arith, rules}
+use native.Mathlib.Nat.{mod-mod, zero-mod}
+use lib.Seq.{drop-length}
+use Rattle.digits.specs.Digits.{weighed}
+use Rattle.digits.specs.inner.Steps.{behind}
+use Rattle.digits.specs.Checks.{base, value_of, counts}
+use Rattle.digits.proofs.laws.Sums.{turn}
+use Rattle.digits.proofs.laws.Moduli.{base_pos}
+use Rattle.digits.proofs.Small.{counts_small, rest_small}
+use Rattle.digits.proofs.sealing.weigh_many.Given as goal
+
+abbrev pub invariant-loop-i : goal.invariant-loop-i
+invariant-loop-i l = (l.i ≤ length l.s) × (l.k ≡ length l.s - l.i + l.right) × (l.sum ≡ weighed (value_of l.m) (behind l.right (counts l.m)) (drop l.i l.s) % base l.m)
+
+abbrev pub decreases-loop-i : goal.decreases-loop-i
+decreases-loop-i l = l.i

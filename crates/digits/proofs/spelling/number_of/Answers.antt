@@ -1,0 +1,25 @@
+-- `digits::number_of` meets its contract. Assumes nothing.
+use Rattle.std.proofs.Common.{◌≡◌, ◌≢◌, length, arith, rules, eq-eqb, ne_eqb, le-leb}
+use mathlib.Core.Bool.{and-false}
+use borrow.Author.Tests.{lt-leb}
+use Rattle.digits.specs.Digits.{leading}
+use Rattle.digits.specs.Numbers.{number_of}
+use Rattle.digits.proofs.spelling.number_of.Goals as goal
+
+pub returns-then-s-gt-MOST_DIGITS : goal.returns-then-s-gt-MOST_DIGITS
+unfolding number_of
+returns-then-s-gt-MOST_DIGITS c = rw (lt-leb _ _ c.if-s-gt-MOST_DIGITS.true, and-false)
+
+pub returns-then-leading-s : goal.returns-then-leading-s
+unfolding number_of
+returns-then-leading-s c =
+    let s = c.args.s.now in
+    let some : leading s ≢ length s = omega arith in
+    rw (ne_eqb (leading s) (length s) some)
+
+pub returns : goal.returns
+unfolding number_of
+returns c =
+    let s = c.args.s.now in
+    let all : leading s ≡ length s = omega arith in
+    rw (eq-eqb (leading s) (length s) all, le-leb _ _ c.if-s-gt-MOST_DIGITS.false, c.spelled.ensures)

@@ -1,0 +1,12 @@
+use Rattle.std.proofs.Common.{◌≡◌, ◌^◌, ◌≤◌, ltb, ◌++◌, length, drop, refl, ◌∙◌, append-nil, arith, length-set, rules}
+use lib.Seq.{drop-length}
+use Rattle.digits.specs.Numbers.{last_digits}
+use Rattle.digits.proofs.Printed.{digits_more, fits_more, all_written, too_wide}
+use Rattle.digits.proofs.spelling.write_number.Given as goal
+
+abbrev pub invariant-loop-i : goal.invariant-loop-i
+invariant-loop-i l =
+    (l.i ≤ length l.part) × (length l.part ≡ length l.initial.part) × (last_digits l.i l.left ++ drop l.i l.part ≡ last_digits (length l.initial.part) l.n) × (ltb l.left (10 ^ l.i) ≡ ltb l.n (10 ^ length l.initial.part))
+
+abbrev pub decreases-loop-i : goal.decreases-loop-i
+decreases-loop-i l = l.i
