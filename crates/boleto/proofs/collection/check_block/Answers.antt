@@ -1,0 +1,6 @@
+-- `boleto::collection::check_block` meets its contract. Assumes nothing.
+use borrow.Author.Rules.{rules}
+use Rattle.boleto.proofs.collection.check_block.Goals as goal
+
+pub returns : goal.returns
+returns c = rw (c.check_part.ensures, c.modulus_of.ensures)
