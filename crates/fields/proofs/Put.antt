@@ -18,9 +18,9 @@ use Rattle.layout.specs.Table.{fields_of, record_bytes, tiles, all}
 use Rattle.layout.specs.Kinds.{means}
 use Rattle.layout.proofs.laws.Tiling.{tiled, ends, All}
 use Rattle.layout.proofs.laws.Sound.{Sound, sounds}
-use Rattle.layout.specs.inner.Lent.{width}
+use Rattle.layout.specs.inner.Entries.{width}
 use Rattle.layout.proofs.laws.Columns.{all_length}
-use Rattle.layout.specs.inner.Lent.{Stands}
+use Rattle.layout.specs.inner.Entries.{Stands}
 use Rattle.layout.specs.declared.Record.{Record}
 use Rattle.fields.specs.Values.{held_as, number_if, nth, rendered, joined, over_field}
 use Rattle.fields.specs.declared.Fields.{Fields}

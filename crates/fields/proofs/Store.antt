@@ -12,7 +12,7 @@ use Rattle.layout.specs.Field.{Field, field, none}
 use Rattle.layout.specs.Table.{fields_of, all}
 use Rattle.layout.proofs.laws.Bytes.{drop_replicate}
 use Rattle.layout.proofs.laws.Columns.{all_length}
-use Rattle.layout.specs.inner.Lent.{Stands}
+use Rattle.layout.specs.inner.Entries.{Stands}
 use Rattle.layout.specs.declared.Record.{Record}
 use Rattle.fields.specs.Values.{most_fields, for_each}
 

@@ -2,7 +2,7 @@
 ghost use Rattle.std.specs.Prelude.{◌≡◌, ◌+◌, ◌<◌, length};
 ghost use Rattle.layout.specs.inner.Lent.{field_count, start_of, Columns};
 ghost use Rattle.layout.specs.Table.{fields_of};
-ghost use Rattle.layout.specs.inner.Lent.{Stands};
+ghost use Rattle.layout.specs.inner.Entries.{Stands};
 ghost use Rattle.fields.specs.Values.{is_number_at, may_be_absent_at};
 
 use layout::{Entry, FIELDS, Fill, Record};

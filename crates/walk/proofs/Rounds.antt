@@ -26,7 +26,7 @@ use Rattle.walk.specs.inner.Masks.{Right, Known}
 use Rattle.layout.proofs.laws.Bytes.{same_turn, same_end}
 use Rattle.layout.proofs.laws.Contents.{length_tab, get_or_tab}
 use Rattle.layout.proofs.laws.Columns.{all_length, no_segment}
-use Rattle.layout.specs.inner.Lent.{Stands}
+use Rattle.layout.specs.inner.Entries.{Stands}
 use Rattle.walk.proofs.laws.Masks.{enough}
 use Rattle.layout.specs.Records.{shape_of, is_detail}
 use Rattle.layout.specs.declared.fixed.Content.{Content}

@@ -6,7 +6,7 @@ ghost use Rattle.layout.specs.inner.Lent.{field_count, Columns};
 ghost use Rattle.layout.specs.Table.{record_bytes, marks, fields_of, all};
 ghost use Rattle.layout.specs.Record.{rules_of};
 ghost use Rattle.walk.specs.inner.Masks.{within, lows_of, highs_of, Known};
-ghost use Rattle.layout.specs.inner.Lent.{Stands};
+ghost use Rattle.layout.specs.inner.Entries.{Stands};
 
 use super::looks::{Look, look_at};
 use answer::{Answer, numbers};

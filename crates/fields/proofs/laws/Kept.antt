@@ -21,7 +21,7 @@ use Rattle.layout.specs.Record.{field_rules, rules_of, first_rules, record_rules
 use Rattle.layout.proofs.laws.Bytes.{and_left, and_right, same_true, no_service, no_form}
 use Rattle.layout.proofs.laws.Tiling.{All, at}
 use Rattle.layout.proofs.laws.Sound.{fills, stands, proper, Sound, sound_at}
-use Rattle.layout.specs.inner.Lent.{width}
+use Rattle.layout.specs.inner.Entries.{width}
 use Rattle.layout.specs.declared.Direction.{Direction}
 use Rattle.layout.specs.declared.Record.{Record}
 use Rattle.layout.specs.declared.Record.TheVariants.{BatchHeader}

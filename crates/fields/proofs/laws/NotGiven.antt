@@ -9,7 +9,7 @@ use Rattle.layout.specs.Field.{Field, part, none}
 use Rattle.layout.specs.Records.{code}
 use Rattle.layout.specs.Table.{fields_of, record_bytes}
 use Rattle.layout.specs.Kinds.{run, blank}
-use Rattle.layout.specs.inner.Lent.{width}
+use Rattle.layout.specs.inner.Entries.{width}
 use Rattle.layout.proofs.laws.Tiling.{Inside, insides, at}
 use Rattle.fields.specs.Values.{held_as, nth, number_if, rendered, record_of, most_fields, over_field, not_given, Whole}
 use Rattle.fields.proofs.laws.Parts.{few, part_behind, part_width, holds}

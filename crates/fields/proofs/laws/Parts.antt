@@ -24,7 +24,7 @@ use Rattle.layout.proofs.laws.Tiling.{tiled, head, ends, covered, Inside, inside
 use Rattle.layout.proofs.laws.Columns.{first_is, past_is}
 use Rattle.layout.specs.declared.table.Span.{Span}
 use Rattle.layout.proofs.laws.Sound.{fills, Sound, sounds}
-use Rattle.layout.specs.inner.Lent.{width}
+use Rattle.layout.specs.inner.Entries.{width}
 use Rattle.layout.specs.declared.Record.{Record}
 use Rattle.layout.proofs.laws.Records.{each}
 use Rattle.fields.specs.Values.{held_as, nth, rendered, joined, record_of, most_fields}

@@ -14,7 +14,7 @@ use Rattle.layout.specs.Kinds.{Held, a_number, as_number, as_bytes, as_fixed}
 use Rattle.digits.specs.declared.spelling.Number.TheVariants.{Is}
 use Rattle.layout.specs.Record.{printable, all_printable, first_rules, rules_of, record_rules, field_rules}
 use Rattle.layout.proofs.laws.Bytes.{and_left, and_right, printable_turn}
-use Rattle.layout.specs.inner.Lent.{width}
+use Rattle.layout.specs.inner.Entries.{width}
 use Rattle.layout.proofs.laws.Tiling.{Inside, insides, at}
 use Rattle.layout.specs.declared.Direction.{Direction}
 use Rattle.layout.specs.declared.Record.{Record}

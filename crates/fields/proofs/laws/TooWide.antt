@@ -13,7 +13,7 @@ use Rattle.layout.specs.Table.{fields_of, record_bytes}
 use Rattle.layout.specs.Kinds.{Presence, always, perhaps, a_number, as_number, run, blank}
 use Rattle.layout.specs.Record.{field_rules, rules_of, first_rules, record_rules}
 use Rattle.layout.proofs.laws.Sound.{sound_at}
-use Rattle.layout.specs.inner.Lent.{width}
+use Rattle.layout.specs.inner.Entries.{width}
 use Rattle.layout.specs.declared.Direction.{Direction}
 use Rattle.layout.specs.declared.Record.{Record}
 use Rattle.layout.specs.declared.Record.TheVariants.{BatchHeader}

@@ -1,7 +1,7 @@
 -- Bytes compared, looked through and copied, one at a time. Assumes nothing.
 use Rattle.std.specs.Prelude.{◌≡◌, refl, Bool, true, false, cond, ◌&&◌, ◌||◌, List, [], ◌∷◌, ◌++◌, ℕ, zero, suc, ◌-◌, ◌≤◌, ◌<◌, eqb, length, get_or, take, drop, set, replicate}
 use Rattle.std.proofs.Common.{sym, ap, ap₂, append_assoc, zero-le, suc-le-suc, arith, eqb-true, eq-eqb, ne_eqb, drop_of_length-le, take-append-drop, length-take, length-drop, drop-cons, take-suc-set, drop-set-lt}
-use Rattle.std.proofs.Math.Bool.{and-false, or_false}
+use Rattle.std.proofs.Math.Bool.{and-false, or-false}
 use Rattle.std.proofs.Math.Nat.{min-eq_left, sub-zero, zero-sub, suc-sub-suc}
 use Rattle.std.proofs.lemmas.Bool.{eqb-false}
 use Rattle.std.proofs.Math.Dec.{eqb-suc-suc}
@@ -63,7 +63,7 @@ blanks_asked bs e = rw (blank_first bs e)
 pub digits_asked : (bs : List ℕ) → eqb (get_or bs 0 0) blank ≡ false → number_or_blank bs ≡ all_digits bs
 unfolding leading same
 digits_asked [] e = refl
-digits_asked (b ∷ bs) e = rw (ne_eqb blank b (λ z. eqb-false b blank e (sym z))) (or_false (all_digits (b ∷ bs)))
+digits_asked (b ∷ bs) e = rw (ne_eqb blank b (λ z. eqb-false b blank e (sym z))) (or-false (all_digits (b ∷ bs)))
 
 -- ---- one of these bytes
 

@@ -16,7 +16,7 @@ use Rattle.layout.specs.declared.table.Span.{Span}
 use Rattle.layout.specs.declared.Record.{Record}
 use Rattle.layout.specs.declared.Record.TheVariants.{FileHeader}
 use Rattle.layout.proofs.laws.Records.{each, tabled}
-use Rattle.layout.specs.inner.Lent.{Stands}
+use Rattle.layout.specs.inner.Entries.{Stands}
 
 -- where each record's fields start, as the code has it
 abbrev pub starts : List ℕ

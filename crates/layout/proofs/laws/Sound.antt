@@ -11,7 +11,7 @@ use Rattle.layout.specs.inner.Lent.{may_be}
 use Rattle.layout.proofs.laws.Tiling.{All, at}
 use Rattle.layout.specs.declared.Record.{Record}
 use Rattle.layout.proofs.laws.Records.{each}
-use Rattle.layout.specs.inner.Lent.{width}
+use Rattle.layout.specs.inner.Entries.{width}
 
 -- as a field is held: a number's digits fit 64 bits, fixed content has the field's width
 abbrev pub fills : Held → ℕ → Bool

@@ -125,14 +125,3 @@ pub record Columns (from to kind : List ℕ) : Type 0 where
   pub froms : from ≡ map (λ (g : Field). g.from) all
   pub tos : to ≡ map (λ (g : Field). g.to) all
   pub kinds_of : map kind_of kind ≡ map (λ (g : Field). g.kind) all
-
-abbrev pub width : Field → ℕ
-width f = f.to - (f.from - 1)
-
--- an entry of the columns is the table's, within a record, and of a width that its kind may have
-pub record Stands (f from to k : ℕ) : Type 0 where
-  pub is : field from to (kind_of k) ≡ get_or all f none
-  pub low : 1 ≤ from
-  pub order : from ≤ to
-  pub high : to ≤ record_bytes
-  pub may : T (may_be (kind_of k) (to - (from - 1)))

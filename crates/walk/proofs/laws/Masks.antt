@@ -27,7 +27,7 @@ use Rattle.layout.proofs.laws.Bytes.{and_left, and_right, same_self, same_true, 
 use Rattle.layout.proofs.laws.Contents.{other_kind}
 use Rattle.layout.proofs.laws.Tiling.{tiled, head, ends, All, at}
 use Rattle.layout.proofs.laws.Sound.{Sound, sounds}
-use Rattle.layout.specs.inner.Lent.{width}
+use Rattle.layout.specs.inner.Entries.{width}
 use Rattle.layout.proofs.laws.Columns.{in_record}
 use Rattle.layout.specs.declared.Direction.{Direction}
 use Rattle.layout.specs.declared.Direction.TheVariants.{Remittance, Return}

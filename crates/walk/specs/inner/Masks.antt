@@ -8,7 +8,7 @@ use Rattle.layout.specs.Field.{Kind, N, NOrBlank, Id, T, F, D, Time, K, O, Zeros
 use Rattle.layout.specs.Table.{all}
 use Rattle.layout.specs.Kinds.{blank, same}
 use Rattle.layout.specs.Record.{field_rules}
-use Rattle.layout.specs.inner.Lent.{width}
+use Rattle.layout.specs.inner.Entries.{width}
 use Rattle.layout.specs.declared.Direction.{Direction}
 use Rattle.layout.specs.declared.Direction.TheVariants.{Remittance, Return}
 

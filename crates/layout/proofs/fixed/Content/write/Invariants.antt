@@ -1,0 +1,18 @@
+use mathlib.Core.Path.{◌≡◌, refl, sym, ◌∙◌}
+use mathlib.Core.List.{◌++◌}
+use Prim.Native.Nat.{◌-◌, ◌≤◌}
+use borrow.Author.Rules.{rules}
+use lib.ListN.{length, take, drop, length-set}
+use Rattle.answer.specs.Output.{over}
+use Rattle.layout.specs.inner.Lent.{content_of}
+use Rattle.layout.proofs.laws.Bytes.{over_all, over_end_out}
+use Rattle.layout.proofs.laws.Contents.{length_tab}
+use Rattle.layout.proofs.Written.{written_more}
+use Rattle.layout.proofs.fixed.Content.write.Given as goal
+
+abbrev pub invariant-loop-i : goal.invariant-loop-i
+invariant-loop-i l =
+    (length l.part ≡ length l.initial.part) × (l.i ≤ length l.part) × (take l.i l.part ++ over (drop l.i (content_of l.self (length l.initial.part))) (drop l.i l.part) ≡ content_of l.self (length l.initial.part))
+
+abbrev pub decreases-loop-i : goal.decreases-loop-i
+decreases-loop-i l = length l.part - l.i
