@@ -1,0 +1,6 @@
+-- `fields::writing::Made::none` meets its contract. Assumes nothing.
+use borrow.Author.Rules.{rules}
+use Rattle.fields.proofs.writing.Made.none.Goals as goal
+
+pub returns : goal.returns
+returns c = rw (c.none-fields.ensures, c.refused.ensures)
