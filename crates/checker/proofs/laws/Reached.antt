@@ -22,8 +22,8 @@ reached_kept (after_line {s} line c) = step_keeps s line (reached_kept c)
 -- all calls lead to such a state
 pub left_reached : {s : Checker} (ls : List (List ℕ)) → Reached s → Reached (left s ls)
 unfolding left
-left_reached [] c = c
-left_reached (l ∷ ls) c = left_reached ls (after_line l c)
+left_reached {s = s} [] c = c
+left_reached {s = s} (l ∷ ls) c = left_reached {s = (step_of s l).state} ls (after_line l c)
 
 pub reached : {s : Checker} → Reached s → sound s ≡ true
 reached c = bounded_sound (kept_bounded (reached_kept c))

@@ -1,0 +1,9 @@
+-- `checker::Checker::in_batch` meets its contract. Assumes nothing.
+use borrow.Author.Rules.{rules}
+use Rattle.checker.proofs.Checker.in_batch.Goals as goal
+
+pub plus-requires : goal.plus-requires
+plus-requires c = rw c.counted.ensures c.requires.room.in-batch
+
+pub returns : goal.returns
+returns c = rw (c.behind.ensures, c.plus.ensures, c.counted.ensures)

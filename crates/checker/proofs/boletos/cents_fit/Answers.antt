@@ -1,0 +1,6 @@
+-- `checker::boletos::cents_fit` meets its contract. Assumes nothing.
+use borrow.Author.Rules.{rules}
+use Rattle.checker.proofs.boletos.cents_fit.Goals as goal
+
+pub returns : goal.returns
+returns c = rw (c.equal-2.ensures, c.equal.ensures, c.requires.nominal_value, c.value.ensures)

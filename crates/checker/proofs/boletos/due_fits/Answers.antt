@@ -1,0 +1,6 @@
+-- `checker::boletos::due_fits` meets its contract. Assumes nothing.
+use borrow.Author.Rules.{rules}
+use Rattle.checker.proofs.boletos.due_fits.Goals as goal
+
+pub returns : goal.returns
+returns c = rw (c.fits_factor.ensures, c.of-due.ensures, c.value.ensures, c.value-factor.ensures)

@@ -1,0 +1,9 @@
+-- `checker::house::check_three_ids` meets its contract: its rules, one after the other. Assumes nothing.
+use Rattle.answer.proofs.laws.Order.{ahead}
+use borrow.Author.Rules.{rules}
+use Rattle.checker.proofs.house.check_three_ids.Goals as goal
+
+pub returns : goal.returns
+returns c =
+    ahead c.and_then-2.ensures _ _ c.check_id-payer.ensures
+    (ahead c.and_then.ensures _ _ c.check_id-payee.ensures c.check_id-guarantor.ensures)

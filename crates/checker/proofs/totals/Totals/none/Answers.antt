@@ -1,0 +1,6 @@
+-- `checker::totals::Totals::none` meets its contract. Assumes nothing.
+use borrow.Author.Rules.{rules}
+use Rattle.checker.proofs.totals.Totals.none.Goals as goal
+
+pub returns : goal.returns
+returns c = rw (c.none.ensures, c.none-2.ensures)
