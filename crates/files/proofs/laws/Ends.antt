@@ -16,8 +16,8 @@ use Rattle.checker.proofs.laws.Reached.{reached}
 
 pub steps_reached : {s : Checker} (ls : List (List ℕ)) → Reached s → Reached (steps s ls).state
 unfolding steps
-steps_reached [] c = c
-steps_reached {s} (l ∷ ls) c = go (step_of s l).answer (steps_reached ls (after_line l c))
+steps_reached {s = s} [] c = c
+steps_reached {s = s} (l ∷ ls) c = go (step_of s l).answer (steps_reached {s = (step_of s l).state} ls (after_line l c))
   where
     go : (a : Answer) → Reached (steps (step_of s l).state ls).state → Reached (unless a (steps (step_of s l).state ls) (step_of s l)).state
     go Accepted on = on

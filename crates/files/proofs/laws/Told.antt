@@ -78,13 +78,13 @@ one_more {s} l a c (refuses (behind_end earlier b later e on at q)) =
 
 said : {s : Checker} {ls : List (List ℕ)} → Reached s → Lines ls → Said s (flatten ls) (arrive s ls).status
 unfolding arrive flatten
-said {s} c empty = goes_on (record { to = s; earlier = []; line = []; are = refl; through = here; less = omega arith; going = λ h. absurd (omega arith) })
-said {s} c (short l some less) = go (ended s.phase) refl
+said {s = s} c empty = goes_on (record { to = s; earlier = []; line = []; are = refl; through = here; less = omega arith; going = λ h. absurd (omega arith) })
+said {s = s} c (short l some less) = go (ended s.phase) refl
   where
     go : (b : Bool) → ended s.phase ≡ b → Said s (l ++ []) (arrive s (l ∷ [])).status
     go true e = ended_said c l [] some e
     go false e = rw (short_waits s l less, e) (goes_on (record { to = s; earlier = []; line = l; are = append-nil l; through = here; less = less; going = λ h. e }))
-said {s} c (full l {ls} long on) = go (ended s.phase) refl (said (after_line l c) on)
+said {s = s} c (full l {ls} long on) = go (ended s.phase) refl (said {s = (step_of s l).state} (after_line l c) on)
   where
     t : Checker
     t = (step_of s l).state

@@ -88,8 +88,8 @@ one_more k (stopped (at_end on lacks e)) = stopped (at_end (further k on) lacks 
 
 described : {s : Checker} (ls : List (List ℕ)) → Reached s → Described s ls (whole s ls)
 unfolding steps
-described [] c = at_the_end c
-described {s} (l ∷ ls) c = go (step_of s l).answer refl (described ls (after_line l c))
+described {s = s} [] c = at_the_end c
+described {s = s} (l ∷ ls) c = go (step_of s l).answer refl (described {s = (step_of s l).state} ls (after_line l c))
   where
     on : Stepped
     on = steps (step_of s l).state ls

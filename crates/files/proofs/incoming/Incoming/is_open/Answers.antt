@@ -1,0 +1,9 @@
+-- `files::incoming::Incoming::is_open` meets its contract. Assumes nothing.
+use borrow.Author.Rules.{rules}
+use Rattle.files.proofs.incoming.Incoming.is_open.Goals as goal
+
+pub returns-in-Open : goal.returns-in-Open
+returns-in-Open c = rw c.in-Open.is
+
+pub returns-in-Ended : goal.returns-in-Ended
+returns-in-Ended c = rw c.in-Ended.is

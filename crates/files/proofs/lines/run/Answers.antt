@@ -1,0 +1,21 @@
+-- `files::lines::run` meets its contract. The loop: the steps from the place on give what all steps give. Assumes nothing.
+use mathlib.Core.Path.{◌≡◌, refl, sym, ◌∙◌}
+use Prim.Native.Nat.{◌≤◌, ◌-◌}
+use native.Mathlib.Omega.{arith}
+use borrow.Author.Rules.{rules}
+use lib.ListN.{length, drop}
+use Rattle.files.specs.File.{lines_of, unless, steps}
+use Rattle.files.proofs.Rounds.{turn, no_more, stop_here}
+use Rattle.files.proofs.lines.run.Goals as goal
+
+pub loop-at-init : goal.loop-at-init
+loop-at-init c = (omega arith, refl)
+
+pub returns-in-Refused : goal.returns-in-Refused
+returns-in-Refused c = stop_here _ _ _ _ c.in-Refused.is ((let it : unless c.step-stepped.result.answer (steps c.step-stepped.result.state (lines_of (drop c.part_end-end.result c.args.part.now))) c.step-stepped.result ≡ steps c.args.from (lines_of c.args.part.now) = (rw c.step-stepped.ensures (sym (turn _ _ _ c.loop-at-test.true c.part_end-end.ensures _) ∙ c.loop-at.invariant.1)) in it))
+
+pub loop-at-preserved : goal.loop-at-preserved
+loop-at-preserved c = (omega arith, rw c.in-Accepted.is at ((let it : unless c.step-stepped.result.answer (steps c.step-stepped.result.state (lines_of (drop c.part_end-end.result c.args.part.now))) c.step-stepped.result ≡ steps c.args.from (lines_of c.args.part.now) = (rw c.step-stepped.ensures (sym (turn _ _ _ c.loop-at-test.true c.part_end-end.ensures _) ∙ c.loop-at.invariant.1)) in it)))
+
+pub returns : goal.returns
+returns c = sym (no_more _ _ _ c.loop-at-test.false) ∙ c.loop-at.invariant.1

@@ -1,0 +1,6 @@
+-- `files::whole::check_file` meets its contract. Assumes nothing.
+use borrow.Author.Rules.{rules}
+use Rattle.files.proofs.whole.check_file.Goals as goal
+
+pub returns : goal.returns
+returns c = rw (← c.start.ensures) c.finish.ensures
