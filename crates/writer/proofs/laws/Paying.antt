@@ -111,9 +111,9 @@ drop_one n xs = drop-drop 1 n xs ∙ rw (add-one n)
 pub inside_all : {s t : Checker} (n : ℕ) (gs : List Fields) → Inside s n t → AllKept (all_given (drop n (expected_in_payment s)) t gs)
     → Inside s (n + length gs) (behind_all t gs)
 unfolding behind_all
-inside_all {s} {t} n [] k h = subst (λ (x : ℕ). Inside s x t) (omega arith) k
-inside_all {s} {t} n (g ∷ gs) k h =
+inside_all {s = s} {t = t} n [] k h = subst (λ (x : ℕ). Inside s x t) (omega arith) k
+inside_all {s = s} {t = t} n (g ∷ gs) k h =
     let expected = drop n (expected_in_payment s) in
     let later = rw (drop_one n (expected_in_payment s)) at (later_kept expected t g gs h) in
-    let on = inside_all (suc n) gs (inside_next g.which (bytes_of t g) k (first_expected expected t g gs h)) later in
+    let on = inside_all {s = s} {t = next_by t g} (suc n) gs (inside_next g.which (bytes_of t g) k (first_expected expected t g gs h)) later in
     subst (λ (x : ℕ). Inside s x (behind_all (next_by t g) gs)) (omega arith) on

@@ -1,0 +1,6 @@
+-- `writer::Writer::room` meets its contract. Assumes nothing.
+use borrow.Author.Rules.{rules}
+use Rattle.writer.proofs.Writer.room.Goals as goal
+
+pub returns : goal.returns
+returns c = rw (c.test.ensures, c.has_room.ensures)

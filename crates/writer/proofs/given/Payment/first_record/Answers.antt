@@ -1,0 +1,6 @@
+-- `writer::given::Payment::first_record` meets its contract. Assumes nothing.
+use borrow.Author.Rules.{rules}
+use Rattle.writer.proofs.given.Payment.first_record.Goals as goal
+
+pub returns-in-One : goal.returns-in-One
+returns-in-One c = rw c.in-One.is c.taken_as.ensures

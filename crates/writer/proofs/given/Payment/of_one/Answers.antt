@@ -1,0 +1,6 @@
+-- `writer::given::Payment::of_one` meets its contract. Assumes nothing.
+use borrow.Author.Rules.{rules}
+use Rattle.writer.proofs.given.Payment.of_one.Goals as goal
+
+pub returns : goal.returns
+returns c = rw c.none-none.ensures

@@ -1,0 +1,17 @@
+-- `writer::payments::is_expected` meets its contract. Assumes nothing.
+use mathlib.Core.Path.{sym, ◌∙◌}
+use borrow.Author.Rules.{rules}
+use Rattle.writer.proofs.laws.Expected.{own_reading, no_reading, no_own}
+use Rattle.writer.proofs.Held.{or_none}
+use Rattle.writer.proofs.payments.is_expected.Goals as goal
+
+pub returns-in-Line : goal.returns-in-Line
+returns-in-Line c =
+    let a = c.args in
+    c.is_same.ensures ∙ or_none _ ∙ sym (own_reading a.dir a.batch a.position a.which _ (sym c.record_at-own.ensures ∙ c.in-Line.is))
+
+pub returns-in-Nothing : goal.returns-in-Nothing
+returns-in-Nothing c =
+    let a = c.args in
+    rw (c.is_z.ensures, c.records_of.ensures)
+    (sym (no_own a.dir a.batch a.position a.which (no_reading a.position a.batch (sym c.record_at-own.ensures ∙ c.in-Nothing.is))))

@@ -1,0 +1,14 @@
+use mathlib.Core.Path.{◌≡◌}
+use Prim.Native.Nat.{◌-◌, ◌≤◌, ◌<◌}
+use native.Mathlib.Omega.{arith}
+use lib.ListN.{length}
+use Rattle.fields.specs.Values.{not_made}
+use Rattle.writer.proofs.Lent.{Over, over_first, over_next, line_room}
+use Rattle.writer.proofs.Trying.{right_at}
+use Rattle.writer.proofs.payments.put_payment.Given as goal
+
+abbrev pub invariant-loop-k : goal.invariant-loop-k
+invariant-loop-k l = (l.k ≤ l.count) × Over l.made l.k l.initial.part l.part
+
+abbrev pub decreases-loop-k : goal.decreases-loop-k
+decreases-loop-k l = l.count - l.k

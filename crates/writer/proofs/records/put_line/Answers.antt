@@ -1,0 +1,15 @@
+-- `writer::records::put_line` meets its contract. Assumes nothing.
+use mathlib.Core.Path.{◌≡◌}
+use native.Mathlib.Omega.{arith}
+use borrow.Author.Rules.{rules}
+use lib.ListN.{length, length-map}
+use Rattle.fields.specs.Values.{record_of}
+use Rattle.writer.proofs.Lent.{line-end}
+use Rattle.writer.proofs.Trying.{put_right}
+use Rattle.writer.proofs.records.put_line.Goals as goal
+
+pub returns : goal.returns
+returns c =
+    let m = c.args.made in
+    let full : length m.fields.text ≡ 240 = c.well_formed.0.1.1.1.0.1.1.1.1.1.0.1.0.1 in
+    line-end (record_of m.fields.which m.fields) c.args.part.now _ (put_right m full c.requires.answer_value (omega (arith, c.requires.line_bytes_in_bounds)) c.put.ensures) c.put.auto.out c.requires.line_bytes_in_bounds

@@ -1,0 +1,14 @@
+-- `writer::turns::check_turn` meets its contract. Assumes nothing.
+use Rattle.writer.proofs.Held.{held_sound}
+use borrow.Author.Rules.{rules}
+use borrow.Author.Tests.{not-true, not-false}
+use mathlib.Core.Path.{sym, ◌∙◌}
+use Rattle.writer.proofs.turns.check_turn.Goals as goal
+
+pub returns-then-not-is_held : goal.returns-then-not-is_held
+returns-then-not-is_held c = rw (sym c.is_held.ensures ∙ not-true _ c.if-not-is_held.true-raw, c.refused.ensures)
+
+pub returns : goal.returns
+returns c =
+    let e = sym c.is_held.ensures ∙ not-false _ c.if-not-is_held.false-raw in
+    rw (e, c.on_line.ensures, c.next_line.ensures, held_sound _ e, c.and_then-asked.ensures, c.test.ensures)
