@@ -18,7 +18,7 @@ use Rattle.checker.specs.declared.order.Reading.TheVariants.{Line}
 use Rattle.layout.specs.declared.shapes.Phase.TheVariants.{Start}
 use Rattle.checker.specs.declared.Checker.{Checker}
 use Rattle.checker.proofs.laws.Edges.{follows_by, type_read}
-use Rattle.checker.specs.inner.Following.{Follows, heads}
+use Rattle.checker.specs.inner.Following.{Follows, heads, pays}
 use Rattle.promises.proofs.laws.Facts.{Fits, taken}
 use Rattle.promises.proofs.laws.Records.{Settled, settled_next}
 
@@ -76,6 +76,7 @@ module _ (ys : List (List ℕ)) where
 
 first : {d : Direction} {b : Batch} {r : Record} → Follows d b Start r → r ≡ FileHeader
 first heads = refl
+first (pays x _) = elim x [ ]
 
 -- a line is the file header, or goes by the direction of the first line
 pub by_first : (xs ys : List (List ℕ)) (rec : List ℕ) {r : Record} → Ends start (xs ++ ys) → line_is (left start xs) rec ≡ Line r

@@ -27,7 +27,7 @@ pub record PassedAs (s : Checker) (ls : List (List ℕ)) (rs : List Record) (t :
   pub counted : t ≡ to.closed
 
 -- one line
-pub one_as : {s t : Checker} {l : List ℕ} {r : Record} → line_is s (record_in l) ≡ Line r → Through s (l ∷ []) t → ThroughAs s (l ∷ []) (r ∷ []) t
+pub one_as : {s : Checker} {l : List ℕ} {t : Checker} {r : Record} → line_is s (record_in l) ≡ Line r → Through s (l ∷ []) t → ThroughAs s (l ∷ []) (r ∷ []) t
 one_as e (calls.further k calls.here) = further k e here
 
 -- lines behind others

@@ -124,9 +124,9 @@ z_tail {k = k} with_z n t = rw (← add-zero k) (steps (adds_z refl) refl n)
 -- payments, from a phase where the batch may close if there is none
 later_tail : {d : Direction} {b : Batch} {p : Phase} {k : ℕ} {rs : List Record} → known b ≡ true → Payments d b k rs → (k ≡ 0 → Tail d b p 0 [])
     → ((r : Record) → Stands b 0 r → Follows d b p r) → Tail d b p k rs
-later_tail e no-payments stop may = stop refl
-later_tail e (pay n ps) stop may =
-    paid_tail e may (z_tail n (later_tail e ps (λ z. stops_behind_z) (λ r. pays pays_behind_z)) (later_tail e ps (λ z. stops_paid) (λ r. pays pays_behind)))
+later_tail {p = p} e no-payments stop may = stop refl
+later_tail {p = p} e (pay n ps) stop may =
+    paid_tail e may (z_tail n (later_tail {p = BehindZ} e ps (λ z. stops_behind_z) (λ r. pays pays_behind_z)) (later_tail {p = Paid} e ps (λ z. stops_paid) (λ r. pays pays_behind)))
 
 pub payments_tail : {d : Direction} {b : Batch} {k : ℕ} {rs : List Record} → known b ≡ true → Payments d b k rs → 1 ≤ k → Tail d b Opened k rs
 payments_tail e ps some = later_tail e ps (λ z. absurd (omega arith)) (λ r. pays first_payment)
