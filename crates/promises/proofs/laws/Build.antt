@@ -103,16 +103,16 @@ module _ {d : Direction} {b : Batch} {n : ℕ} {x : Totals} where
 -- ---- batches
 
 -- from a phase where a batch may begin, and the file may end if there is none
-batches_through : {d : Direction} {p : Phase} {b : Batch} {n m : ℕ} {ls : List (List ℕ)} {t : Totals} (x : Totals) (w : Batches d n m ls t)
+batches_through : {d : Direction} {n : ℕ} {p : Phase} {b : Batch} {m : ℕ} {ls : List (List ℕ)} {t : Totals} (x : Totals) (w : Batches d n m ls t)
     → Follows d b p BatchHeader → (t.batches ≡ 0 → ThroughAs (state p d b n x none) [] [] (state Closed d Unknown n x none))
     → x.batches ≡ m → x.batches + t.batches ≤ most_batches → cent_sum x + cent_sum t < file_cents → Reached (state p d b n x none)
     → ThroughAs (state p d b n x none) ls (records_in_batches w) (state Closed d Unknown n (add x t) none)
 unfolding add
 batches_through {p = p} {b = b} x no_batches f stop e few below at = rw (add_none x) (stop refl)
-batches_through {d = d} {p = p} {b = b} {n = n} x (batch {ls = ls} {t = t} {u = u} w ws) f stop e few below at =
+batches_through {d = d} {n = n} {p = p} {b = b} x (batch {ls = ls} {t = t} {u = u} w ws) f stop e few below at =
     let z = ap (λ (t : Totals). t.batches) w.are in
     let first = batch_through w (ap (λ (k : ℕ). k + 1) e) f (omega arith) (omega arith) at in
-    let later = batches_through {p = Closed} {b = kind_in d w.header} (add x t) ws next_batch (λ z. here) (omega arith) (omega arith) (omega arith) (reached_as at first) in
+    let later = batches_through {p = Closed} {b = Unknown} (add x t) ws next_batch (λ z. here) (omega arith) (omega arith) (omega arith) (reached_as at first) in
     rw (← add_assoc x t u) (as_append first later)
 
 -- ---- a file
