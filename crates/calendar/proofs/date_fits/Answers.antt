@@ -1,6 +1,5 @@
 -- `calendar::date_fits` meets its contract. Assumes nothing.
 use mathlib.Core.Path.{ap, ◌∙◌}
-use borrow.Author.Rules.{rules}
 use borrow.Author.Tests.{eq-eqb, ne_eqb}
 use Rattle.calendar.specs.Calendar.{exists, date_fits}
 use Rattle.calendar.proofs.date_fits.Goals as goal

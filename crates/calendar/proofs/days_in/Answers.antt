@@ -1,5 +1,4 @@
 -- `calendar::days_in` meets its contract. Assumes nothing.
-use borrow.Author.Rules.{rules}
 use Rattle.calendar.proofs.laws.Days.{turns}
 use Rattle.calendar.proofs.days_in.Goals as goal
 

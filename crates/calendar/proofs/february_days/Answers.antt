@@ -1,6 +1,5 @@
 -- `calendar::february_days` meets its contract. Assumes nothing.
 use mathlib.Core.Path.{sym, ◌∙◌}
-use borrow.Author.Rules.{rules}
 use Rattle.calendar.proofs.february_days.Goals as goal
 
 pub returns-then-is_leap : goal.returns-then-is_leap

@@ -1,5 +1,4 @@
 -- `calendar::time_fits` meets its contract. Assumes nothing.
-use borrow.Author.Rules.{rules}
 use borrow.Author.Tests.{eq-eqb, ne_eqb}
 use Rattle.calendar.specs.Calendar.{time_fits}
 use Rattle.calendar.proofs.time_fits.Goals as goal

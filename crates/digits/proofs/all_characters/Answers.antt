@@ -1,7 +1,7 @@
 -- `digits::all_characters` meets its contract: so far, and the rest, is the whole. Assumes nothing.
-use Rattle.std.proofs.Common.{◌≡◌, ◌-◌, ◌≤◌, ◌&&◌, length, drop, sym, refl, ◌∙◌, add-one, drop_of_length-le, rules}
+use Rattle.std.proofs.Common.{sym, refl, ◌∙◌, add-one, drop_of_length-le, rules}
 use mathlib.Core.Bool.{and-true, and_assoc}
-use Rattle.digits.specs.Digits.{is_character, every_byte, all_characters}
+use Rattle.digits.specs.Digits.{is_character, every_byte}
 use Rattle.digits.proofs.laws.Strings.{every_turn}
 use Rattle.digits.proofs.all_characters.Goals as goal
 

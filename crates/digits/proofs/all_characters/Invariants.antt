@@ -1,7 +1,5 @@
-use Rattle.std.proofs.Common.{◌≡◌, ◌-◌, ◌≤◌, ◌&&◌, length, drop, sym, refl, ◌∙◌, add-one, drop_of_length-le, rules}
-use mathlib.Core.Bool.{and-true, and_assoc}
-use Rattle.digits.specs.Digits.{is_character, every_byte, all_characters}
-use Rattle.digits.proofs.laws.Strings.{every_turn}
+use Rattle.std.proofs.Common.{◌≡◌, ◌-◌, ◌≤◌, ◌&&◌, length, drop}
+use Rattle.digits.specs.Digits.{all_characters}
 use Rattle.digits.proofs.all_characters.Given as goal
 
 abbrev pub invariant-loop-i : goal.invariant-loop-i

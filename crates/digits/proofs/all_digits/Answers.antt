@@ -1,7 +1,7 @@
 -- `digits::all_digits` meets its contract: so far, and the rest, is the whole. Assumes nothing.
-use Rattle.std.proofs.Common.{◌≡◌, ◌-◌, ◌≤◌, ◌&&◌, length, drop, sym, refl, ◌∙◌, add-one, drop_of_length-le, rules}
+use Rattle.std.proofs.Common.{sym, refl, ◌∙◌, add-one, drop_of_length-le, rules}
 use mathlib.Core.Bool.{and-true}
-use Rattle.digits.specs.Digits.{leading, all_digits}
+use Rattle.digits.specs.Digits.{leading}
 use Rattle.digits.proofs.laws.Tests.{and_regroup}
 use Rattle.digits.proofs.laws.Strings.{all_drop}
 use Rattle.digits.proofs.all_digits.Goals as goal

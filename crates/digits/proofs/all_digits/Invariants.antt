@@ -1,8 +1,5 @@
-use Rattle.std.proofs.Common.{◌≡◌, ◌-◌, ◌≤◌, ◌&&◌, length, drop, sym, refl, ◌∙◌, add-one, drop_of_length-le, rules}
-use mathlib.Core.Bool.{and-true}
-use Rattle.digits.specs.Digits.{leading, all_digits}
-use Rattle.digits.proofs.laws.Tests.{and_regroup}
-use Rattle.digits.proofs.laws.Strings.{all_drop}
+use Rattle.std.proofs.Common.{◌≡◌, ◌-◌, ◌≤◌, ◌&&◌, length, drop}
+use Rattle.digits.specs.Digits.{all_digits}
 use Rattle.digits.proofs.all_digits.Given as goal
 
 abbrev pub invariant-loop-i : goal.invariant-loop-i

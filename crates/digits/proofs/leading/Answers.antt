@@ -1,5 +1,5 @@
 -- `digits::leading` meets its contract. The invariant: the digits are i and those that the rest begins with. Assumes nothing.
-use Rattle.std.proofs.Common.{◌≡◌, ◌+◌, ◌-◌, ◌≤◌, length, drop, sym, ◌∙◌, add-one, arith, rules}
+use Rattle.std.proofs.Common.{◌≡◌, length, sym, ◌∙◌, add-one, arith}
 use borrow.Author.Tests.{not-true, not-false}
 use lib.Seq.{drop-length}
 use Rattle.digits.specs.Digits.{leading}

@@ -1,8 +1,5 @@
-use Rattle.std.proofs.Common.{◌≡◌, ◌+◌, ◌-◌, ◌≤◌, length, drop, sym, ◌∙◌, add-one, arith, rules}
-use borrow.Author.Tests.{not-true, not-false}
-use lib.Seq.{drop-length}
+use Rattle.std.proofs.Common.{◌≡◌, ◌+◌, ◌-◌, ◌≤◌, length, drop}
 use Rattle.digits.specs.Digits.{leading}
-use Rattle.digits.proofs.laws.Strings.{leading_drop}
 use Rattle.digits.proofs.leading.Given as goal
 
 abbrev pub invariant-loop-i : goal.invariant-loop-i

@@ -1,14 +1,12 @@
 -- `ids::are_zeros` meets its contract: so far, and the rest, is the whole. Assumes nothing.
-use mathlib.Core.Path.{◌≡◌, refl, sym, ◌∙◌}
-use mathlib.Core.Bool.{◌&&◌, and-true, and_assoc}
-use Prim.Native.Nat.{◌-◌, ◌≤◌}
+use mathlib.Core.Path.{refl, sym, ◌∙◌}
+use mathlib.Core.Bool.{and-true, and_assoc}
 use native.Mathlib.Numerals.{add-one}
 use borrow.Author.Rules.{rules}
 use lib.Dec.{eqb}
-use lib.ListN.{length, drop, drop_of_length-le}
+use lib.ListN.{drop_of_length-le}
 use Rattle.digits.specs.Digits.{digit_byte, every_byte}
 use Rattle.digits.proofs.laws.Strings.{every_turn}
-use Rattle.ids.specs.Ids.{all_zeros}
 use Rattle.ids.proofs.are_zeros.Goals as goal
 
 pub loop-i-init : goal.loop-i-init

@@ -1,12 +1,7 @@
-use mathlib.Core.Path.{◌≡◌, refl, sym, ◌∙◌}
-use mathlib.Core.Bool.{◌&&◌, and-true, and_assoc}
+use mathlib.Core.Path.{◌≡◌}
+use mathlib.Core.Bool.{◌&&◌}
 use Prim.Native.Nat.{◌-◌, ◌≤◌}
-use native.Mathlib.Numerals.{add-one}
-use borrow.Author.Rules.{rules}
-use lib.Dec.{eqb}
-use lib.ListN.{length, drop, drop_of_length-le}
-use Rattle.digits.specs.Digits.{digit_byte, every_byte}
-use Rattle.digits.proofs.laws.Strings.{every_turn}
+use lib.ListN.{length, drop}
 use Rattle.ids.specs.Ids.{all_zeros}
 use Rattle.ids.proofs.are_zeros.Given as goal
 

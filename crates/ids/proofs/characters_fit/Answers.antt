@@ -1,6 +1,5 @@
 -- `ids::characters_fit` meets its contract. Assumes nothing.
 use native.Mathlib.Nat.{sub-zero}
-use borrow.Author.Rules.{rules}
 use Rattle.ids.specs.Ids.{characters_fit}
 use Rattle.ids.proofs.Parts.{to_the_end}
 use Rattle.ids.proofs.characters_fit.Goals as goal

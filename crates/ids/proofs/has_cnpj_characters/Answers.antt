@@ -1,5 +1,4 @@
 -- `ids::has_cnpj_characters` meets its contract. Assumes nothing.
-use borrow.Author.Rules.{rules}
 use borrow.Author.Tests.{eq-eqb, ne_eqb}
 use Rattle.ids.specs.Ids.{cnpj_characters}
 use Rattle.ids.proofs.has_cnpj_characters.Goals as goal

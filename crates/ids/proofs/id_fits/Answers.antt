@@ -1,6 +1,5 @@
 -- `ids::id_fits` meets its contract. Assumes nothing.
 use native.Mathlib.Nat.{sub-zero}
-use borrow.Author.Rules.{rules}
 use Rattle.ids.specs.Ids.{id_fits}
 use Rattle.ids.proofs.Parts.{to_the_end}
 use Rattle.ids.proofs.id_fits.Goals as goal

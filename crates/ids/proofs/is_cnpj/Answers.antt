@@ -1,5 +1,4 @@
 -- `ids::is_cnpj` meets its contract. Assumes nothing.
-use borrow.Author.Rules.{rules}
 use borrow.Author.Tests.{ne_eqb}
 use Rattle.ids.specs.Ids.{cnpj_characters}
 use Rattle.ids.proofs.is_cnpj.Goals as goal

@@ -1,5 +1,4 @@
 -- `ids::is_cpf` meets its contract. Assumes nothing.
-use borrow.Author.Rules.{rules}
 use borrow.Author.Tests.{eq-eqb, ne_eqb}
 use Rattle.ids.specs.Ids.{cpf_digits}
 use Rattle.ids.proofs.is_cpf.Goals as goal

@@ -1,5 +1,4 @@
 -- `answer::Answer::on_line` meets its contract. Assumes nothing.
-use borrow.Author.Rules.{rules}
 use Rattle.answer.proofs.Answer.on_line.Goals as goal
 
 pub returns-in-Refused : goal.returns-in-Refused

@@ -1,6 +1,5 @@
 -- `answer::Answer::test` meets its contract. Assumes nothing.
 use mathlib.Core.Path.{◌∙◌}
-use borrow.Author.Rules.{rules}
 use Rattle.answer.proofs.laws.Order.{past, here, done}
 use Rattle.answer.proofs.Answer.test.Goals as goal
 

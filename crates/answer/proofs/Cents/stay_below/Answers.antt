@@ -1,6 +1,5 @@
 -- `answer::Cents::stay_below` meets its contract. Assumes nothing.
 use native.Mathlib.Omega.{arith}
-use borrow.Author.Rules.{rules}
 use Rattle.answer.proofs.Tests.{left_below, reached}
 use Rattle.answer.proofs.Cents.stay_below.Goals as goal
 

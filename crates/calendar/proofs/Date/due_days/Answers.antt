@@ -1,6 +1,5 @@
 -- `calendar::Date::due_days` meets its contract. Assumes nothing.
 use native.Mathlib.Omega.{arith}
-use borrow.Author.Rules.{rules}
 use Rattle.calendar.specs.Due.{due_days}
 use Rattle.calendar.proofs.laws.Factors.{base_day}
 use Rattle.calendar.proofs.Date.due_days.Goals as goal

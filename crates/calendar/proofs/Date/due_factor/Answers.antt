@@ -1,6 +1,5 @@
 -- `calendar::Date::due_factor` meets its contract. Assumes nothing.
 use mathlib.Core.Path.{◌∙◌, ap}
-use borrow.Author.Rules.{rules}
 use Rattle.calendar.specs.Due.{folded, factor_of}
 use Rattle.calendar.proofs.Date.due_factor.Goals as goal
 

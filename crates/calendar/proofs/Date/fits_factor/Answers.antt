@@ -1,5 +1,4 @@
 -- `calendar::Date::fits_factor` meets its contract. Assumes nothing.
-use borrow.Author.Rules.{rules}
 use borrow.Author.Tests.{eq-eqb, ne_eqb}
 use Rattle.calendar.proofs.Date.fits_factor.Goals as goal
 

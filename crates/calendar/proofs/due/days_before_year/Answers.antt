@@ -2,7 +2,6 @@
 use mathlib.Core.Path.{◌≡◌, sym}
 use Prim.Native.Nat.{◌+◌, ◌-◌}
 use native.Mathlib.Omega.{arith}
-use borrow.Author.Rules.{rules}
 use Rattle.calendar.specs.Calendar.{first_year}
 use Rattle.calendar.proofs.laws.Days.{years_closed}
 use Rattle.calendar.proofs.due.days_before_year.Goals as goal

@@ -1,5 +1,4 @@
 -- `calendar::due::folded` meets its contract. Assumes nothing.
-use borrow.Author.Rules.{rules}
 use borrow.Author.Tests.{le-leb, lt-leb}
 use native.Mathlib.Omega.{arith}
 use Rattle.calendar.specs.Due.{last_factor, folded}

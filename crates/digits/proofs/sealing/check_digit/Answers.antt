@@ -1,5 +1,5 @@
 -- `digits::check_digit` meets its contract. Assumes nothing.
-use Rattle.std.proofs.Common.{mod-lt, rules}
+use Rattle.std.proofs.Common.{mod-lt}
 use Rattle.digits.specs.Checks.{counts, check_digit}
 use Rattle.digits.proofs.laws.Sums.{behind_none}
 use Rattle.digits.proofs.laws.Moduli.{base_pos}

@@ -1,5 +1,5 @@
 -- `digits::sealing::check_of` meets its contract. Assumes nothing.
-use Rattle.std.proofs.Common.{mod-lt, arith, rules}
+use Rattle.std.proofs.Common.{mod-lt, arith}
 use Rattle.digits.specs.Checks.{base, value_of, counts, check_digit}
 use Rattle.digits.proofs.laws.Sums.{weighed_split}
 use Rattle.digits.proofs.laws.Moduli.{base_pos}

@@ -1,5 +1,5 @@
 -- `digits::sealing::count` meets its contract. Assumes nothing.
-use Rattle.std.proofs.Common.{ℕ, ◌*◌, ◌^◌, ◌<◌, ◌≤◌, sym, ap, lt_of_le_of_lt, arith, lit<, rules}
+use Rattle.std.proofs.Common.{ℕ, ◌*◌, ◌^◌, ◌<◌, ◌≤◌, sym, ap, lt_of_le_of_lt, arith, lit<}
 use Rattle.digits.specs.Checks.{weight, counts}
 use Rattle.digits.specs.inner.Steps.{most_value}
 use Rattle.digits.specs.declared.sealing.Modulus.{Modulus}

@@ -1,5 +1,5 @@
 -- `digits::sealing::eleven_less` meets its contract. Assumes nothing.
-use Rattle.std.proofs.Common.{arith, rules, le-ltb, lt-ltb}
+use Rattle.std.proofs.Common.{arith, le-ltb, lt-ltb}
 use Rattle.digits.proofs.sealing.eleven_less.Goals as goal
 
 pub returns-then-r-lt2 : goal.returns-then-r-lt2

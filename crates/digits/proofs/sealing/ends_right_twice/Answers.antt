@@ -1,5 +1,5 @@
 -- `digits::sealing::ends_right_twice` meets its contract. Assumes nothing.
-use Rattle.std.proofs.Common.{sym, rules}
+use Rattle.std.proofs.Common.{sym}
 use native.Mathlib.Nat.{sub-zero}
 use Rattle.digits.proofs.Small.{ends_wrong_twice}
 use Rattle.digits.proofs.sealing.ends_right_twice.Goals as goal

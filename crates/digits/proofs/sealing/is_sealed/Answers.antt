@@ -1,5 +1,5 @@
 -- `digits::is_sealed` meets its contract. Assumes nothing.
-use Rattle.std.proofs.Common.{◌≡◌, ◌+◌, ◌-◌, length, get_or, drop, sym, arith, length-drop, take_all, rules}
+use Rattle.std.proofs.Common.{◌≡◌, ◌+◌, ◌-◌, length, get_or, drop, sym, arith, length-drop, take_all}
 use native.Mathlib.Nat.{sub-zero}
 use lib.ListN.{get_or-eq_default}
 use Rattle.digits.proofs.Small.{unsealed}

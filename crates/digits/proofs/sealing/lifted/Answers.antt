@@ -1,5 +1,5 @@
 -- `digits::sealing::lifted` meets its contract. Assumes nothing.
-use Rattle.std.proofs.Common.{ap, arith, rules, le-ltb, lt-ltb}
+use Rattle.std.proofs.Common.{ap, arith, le-ltb, lt-ltb}
 use Rattle.digits.specs.Checks.{base, lift}
 use Rattle.digits.proofs.Small.{lift_eleven}
 use Rattle.digits.proofs.sealing.lifted.Goals as goal

@@ -1,5 +1,5 @@
 -- `digits::sealing::value_of` meets its contract. Assumes nothing.
-use Rattle.std.proofs.Common.{arith, rules}
+use Rattle.std.proofs.Common.{arith}
 use Rattle.digits.proofs.sealing.value_of.Goals as goal
 
 pub returns-in-Ten : goal.returns-in-Ten

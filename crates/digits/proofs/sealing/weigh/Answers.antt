@@ -1,5 +1,5 @@
 -- `digits::sealing::weigh` meets its contract. Assumes nothing.
-use Rattle.std.proofs.Common.{arith, rules}
+use Rattle.std.proofs.Common.{arith}
 use Rattle.digits.proofs.laws.Moduli.{base_pos}
 use Rattle.digits.proofs.sealing.weigh.Goals as goal
 

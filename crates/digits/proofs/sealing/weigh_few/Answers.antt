@@ -1,5 +1,5 @@
 -- `digits::sealing::weigh_few` meets its contract. The invariant: the sum and that of the bytes from index i on are the whole sum, and k bytes stand to the right of the last. Assumes nothing.
-use Rattle.std.proofs.Common.{◌≡◌, suc, ◌+◌, ◌-◌, ◌*◌, ◌≤◌, length, get_or, drop, add-one, arith, rules}
+use Rattle.std.proofs.Common.{◌≡◌, suc, ◌+◌, ◌-◌, ◌≤◌, length, get_or, add-one, arith}
 use lib.Seq.{drop-length}
 use Rattle.digits.specs.Digits.{weighed}
 use Rattle.digits.specs.inner.Steps.{behind, most_count}

@@ -1,10 +1,7 @@
-use Rattle.std.proofs.Common.{◌≡◌, suc, ◌+◌, ◌-◌, ◌*◌, ◌≤◌, length, get_or, drop, add-one, arith, rules}
-use lib.Seq.{drop-length}
+use Rattle.std.proofs.Common.{◌≡◌, ◌+◌, ◌-◌, ◌*◌, ◌≤◌, length, drop}
 use Rattle.digits.specs.Digits.{weighed}
 use Rattle.digits.specs.inner.Steps.{behind, most_count}
 use Rattle.digits.specs.Checks.{value_of, counts}
-use Rattle.digits.proofs.laws.Sums.{weighed_drop}
-use Rattle.digits.proofs.Small.{counts_small}
 use Rattle.digits.proofs.sealing.weigh_few.Given as goal
 
 abbrev pub invariant-loop-i : goal.invariant-loop-i

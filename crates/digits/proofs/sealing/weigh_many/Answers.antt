@@ -1,5 +1,5 @@
 -- `digits::sealing::weigh_many` meets its contract. The invariant: the sum is the remainder of the bytes from index i on, and k bytes stand to the right of the next. Assumes nothing.
-use Rattle.std.proofs.Common.{◌≡◌, ℕ, ◌+◌, ◌-◌, ◌%◌, ◌≤◌, length, drop, sym, ap, ◌∙◌, arith, rules}
+use Rattle.std.proofs.Common.{◌≡◌, ℕ, ◌%◌, sym, ap, ◌∙◌, arith}
 use native.Mathlib.Nat.{mod-mod, zero-mod}
 use lib.Seq.{drop-length}
 use Rattle.digits.specs.Digits.{weighed}

@@ -1,12 +1,7 @@
-use Rattle.std.proofs.Common.{◌≡◌, ℕ, ◌+◌, ◌-◌, ◌%◌, ◌≤◌, length, drop, sym, ap, ◌∙◌, arith, rules}
-use native.Mathlib.Nat.{mod-mod, zero-mod}
-use lib.Seq.{drop-length}
+use Rattle.std.proofs.Common.{◌≡◌, ◌+◌, ◌-◌, ◌%◌, ◌≤◌, length, drop}
 use Rattle.digits.specs.Digits.{weighed}
 use Rattle.digits.specs.inner.Steps.{behind}
 use Rattle.digits.specs.Checks.{base, value_of, counts}
-use Rattle.digits.proofs.laws.Sums.{turn}
-use Rattle.digits.proofs.laws.Moduli.{base_pos}
-use Rattle.digits.proofs.Small.{counts_small, rest_small}
 use Rattle.digits.proofs.sealing.weigh_many.Given as goal
 
 abbrev pub invariant-loop-i : goal.invariant-loop-i

@@ -1,7 +1,6 @@
 -- `digits::spelling::fill_stars` meets its contract. The invariant: what is before i is written. Assumes nothing.
-use Rattle.std.proofs.Common.{◌≡◌, ◌-◌, ◌≤◌, length, take, replicate, sym, arith, length-set, rules}
+use Rattle.std.proofs.Common.{length, sym, arith, length-set}
 use lib.ListN.{length-replicate, get_or-replicate}
-use Rattle.digits.specs.Numbers.{star}
 use Rattle.digits.proofs.Over.{more, done}
 use Rattle.digits.proofs.spelling.fill_stars.Goals as goal
 

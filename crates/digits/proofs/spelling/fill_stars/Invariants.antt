@@ -1,7 +1,5 @@
-use Rattle.std.proofs.Common.{◌≡◌, ◌-◌, ◌≤◌, length, take, replicate, sym, arith, length-set, rules}
-use lib.ListN.{length-replicate, get_or-replicate}
+use Rattle.std.proofs.Common.{◌≡◌, ◌-◌, ◌≤◌, length, take, replicate}
 use Rattle.digits.specs.Numbers.{star}
-use Rattle.digits.proofs.Over.{more, done}
 use Rattle.digits.proofs.spelling.fill_stars.Given as goal
 
 abbrev pub invariant-loop-i : goal.invariant-loop-i

@@ -1,9 +1,8 @@
 -- `digits::spelling::spelled` meets its contract. The invariant: n, with as many zeros behind it as digits are left, and what these spell make the number. Assumes nothing.
-use Rattle.std.proofs.Common.{◌≡◌, ◌+◌, ◌-◌, ◌*◌, ◌^◌, ◌<◌, ◌≤◌, length, drop, sym, ◌∙◌, add-one, arith, rules}
+use Rattle.std.proofs.Common.{◌≡◌, length, sym, ◌∙◌, add-one, arith, rules}
 use native.Mathlib.Nat.{sub_self}
 use lib.Seq.{drop-length}
 use Rattle.digits.specs.Digits.{weighed}
-use Rattle.digits.specs.Numbers.{number}
 use Rattle.digits.proofs.laws.Numerals.{number_turn, below_more, below_limit}
 use Rattle.digits.proofs.spelling.spelled.Goals as goal
 

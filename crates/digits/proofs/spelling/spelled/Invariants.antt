@@ -1,9 +1,5 @@
-use Rattle.std.proofs.Common.{◌≡◌, ◌+◌, ◌-◌, ◌*◌, ◌^◌, ◌<◌, ◌≤◌, length, drop, sym, ◌∙◌, add-one, arith, rules}
-use native.Mathlib.Nat.{sub_self}
-use lib.Seq.{drop-length}
-use Rattle.digits.specs.Digits.{weighed}
+use Rattle.std.proofs.Common.{◌≡◌, ◌+◌, ◌-◌, ◌*◌, ◌^◌, ◌<◌, ◌≤◌, length, drop}
 use Rattle.digits.specs.Numbers.{number}
-use Rattle.digits.proofs.laws.Numerals.{number_turn, below_more, below_limit}
 use Rattle.digits.proofs.spelling.spelled.Given as goal
 
 abbrev pub invariant-loop-i : goal.invariant-loop-i

@@ -1,5 +1,5 @@
 -- `digits::value` meets its contract. Assumes nothing.
-use Rattle.std.proofs.Common.{rules, le-leb}
+use Rattle.std.proofs.Common.{le-leb}
 use borrow.Author.Tests.{lt-leb}
 use Rattle.digits.proofs.spelling.value.Goals as goal
 

@@ -1,7 +1,6 @@
 -- `digits::write_number` meets its contract. The invariant: the digits of what is left, before i, and the part from i on are the digits; and what is left fits i places as the number fits all. Assumes nothing.
-use Rattle.std.proofs.Common.{◌≡◌, ◌^◌, ◌≤◌, ltb, ◌++◌, length, drop, refl, ◌∙◌, append-nil, arith, length-set, rules}
+use Rattle.std.proofs.Common.{refl, ◌∙◌, append-nil, arith, length-set, rules}
 use lib.Seq.{drop-length}
-use Rattle.digits.specs.Numbers.{last_digits}
 use Rattle.digits.proofs.Printed.{digits_more, fits_more, all_written, too_wide}
 use Rattle.digits.proofs.spelling.write_number.Goals as goal
 

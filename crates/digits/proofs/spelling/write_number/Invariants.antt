@@ -1,7 +1,5 @@
-use Rattle.std.proofs.Common.{◌≡◌, ◌^◌, ◌≤◌, ltb, ◌++◌, length, drop, refl, ◌∙◌, append-nil, arith, length-set, rules}
-use lib.Seq.{drop-length}
+use Rattle.std.proofs.Common.{◌≡◌, ◌^◌, ◌≤◌, ltb, ◌++◌, length, drop}
 use Rattle.digits.specs.Numbers.{last_digits}
-use Rattle.digits.proofs.Printed.{digits_more, fits_more, all_written, too_wide}
 use Rattle.digits.proofs.spelling.write_number.Given as goal
 
 abbrev pub invariant-loop-i : goal.invariant-loop-i
