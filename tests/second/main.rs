@@ -1,9 +1,9 @@
-//! The second program: written from document 01 and requests 1, 2, 3, 5, 7, 11
-//! and 13 of document 02, without sight of the payment desk's code, it asks the
-//! desk's probe many questions and compares every reply with its own answer. It
-//! also changes files at their guarded places, swaps neighbours in them, feeds
-//! large files to the desk's program, and makes plain files. Everywhere here
-//! document 01 is meant with those requests in it.
+//! The second program: written from document 01 and requests 1, 2, 3, 5, 7 and
+//! 13 of document 02, without sight of the payment desk's code, it asks the desk's
+//! probe many questions and compares every reply with its own answer. It also
+//! changes files at their guarded places, feeds large files to the desk's
+//! program, and makes plain files. Everywhere here document 01 is meant with
+//! those requests in it.
 //!
 //! The folders, each by its role:
 //!

@@ -1,6 +1,6 @@
 -- The demands, said of any checker, any checker in parts, any writer and any converters of digit strings, whatever they are made of. Assumes
 -- nothing.
-use Rattle.std.specs.Prelude.{◌≡◌, ◌≢◌, ◌↔◌, List, [], ◌∷◌, ◌++◌, cond, ℕ, suc, ◌≤◌, length, take, drop}
+use Rattle.std.specs.Prelude.{◌≡◌, ◌≢◌, ◌↔◌, List, [], ◌∷◌, ◌++◌, cond, ℕ, ◌≤◌, length, take, drop}
 use Rattle.answer.specs.Rules.{AllKept}
 use Rattle.answer.specs.declared.Refusal.{Refusal}
 use Rattle.answer.specs.declared.Answer.{Answer}
@@ -21,7 +21,7 @@ use Rattle.writer.specs.Calls.{Lent, WholeCalls, state_behind, left, file_of, pu
 use Rattle.writer.specs.declared.Writer.{Writer}
 use Rattle.promises.specs.Strings.{Family}
 use Rattle.promises.specs.Grammar.{Meets}
-use Rattle.promises.specs.Guarded.{line_at, GuardedIn, GuardedPairIn, changed, swapped_at}
+use Rattle.promises.specs.Guarded.{line_at, GuardedIn, changed}
 
 -- ---- a checker: the bytes of a file, and the outcome
 
@@ -33,11 +33,6 @@ Demand2 check = (file : List ℕ) (t : Totals) → check file ≡ Accepted t ↔
 abbrev pub Demand3 : (List ℕ → Outcome) → Type 0
 Demand3 check = (file : List ℕ) (t : Totals) (n p b : ℕ) → check file ≡ Accepted t → GuardedIn file n p → b ≢ place p (line_at n file)
     → (r : Refusal) × (check (changed file n p b) ≡ Refused r)
-
--- two unequal neighbours of an accepted file that are guarded, swapped, are refused
-abbrev pub SwapDemand3 : (List ℕ → Outcome) → Type 0
-SwapDemand3 check = (file : List ℕ) (t : Totals) (n p : ℕ) → check file ≡ Accepted t → GuardedPairIn file n p → place p (line_at n file) ≢ place (suc p) (line_at n file)
-    → (r : Refusal) × (check (swapped_at file n p) ≡ Refused r)
 
 -- ---- a checker in parts: states of any kind, a call with a part, and a call for the end
 

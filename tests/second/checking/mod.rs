@@ -39,8 +39,5 @@ pub mod script_sights;
 pub mod script_tally;
 pub mod sown_mistakes;
 pub mod stand_in;
-pub mod swap_claims;
-pub mod swap_hunt;
-pub mod swap_sights;
 pub mod tally;
 pub mod writer_claims;

@@ -1,13 +1,11 @@
 //! Holds the program to what document 01 claims of guarded places: in accepted
-//! files and digit lines, one byte changed there is refused. What request 11
-//! claims of neighbours comes behind it.
+//! files and digit lines, one byte changed there is refused.
 
 use crate::cases::streams;
 use crate::checking::sample_sights;
 use crate::checking::sown_mistakes::SownMistake;
-use crate::comparing::swaps;
-use crate::comparing::trials::hold;
-use crate::damage::changes::{count, Demand, Trials};
+use crate::comparing::trials::first_failure;
+use crate::damage::changes::{Demand, Trials};
 use crate::damage::file_trials;
 use crate::damage::other_bytes::BYTES_TRIED;
 use crate::damage::{guarded_codes, guarded_digits};
@@ -17,7 +15,7 @@ use crate::making::good_files::MadeLine;
 use crate::making::guarded_samples::{samples, Sample};
 use crate::making::random::Random;
 use crate::paper::layout_table as table;
-use crate::paper::places::{BARCODE_FREE, CODE, SEGMENT};
+use crate::paper::places::{part, Part, CODE, SEGMENT};
 use crate::paper::record_kinds::RecordKind;
 use crate::paper::registration::{type_before, Registration};
 
@@ -25,6 +23,8 @@ const SEED: u64 = 13;
 /// One in the list of places, three in the demands on files, and two in those on
 /// digit lines and on collection codes.
 const SOWN_MISTAKES: usize = 8;
+/// The digits of J that only the general check looks at.
+const FREE_DIGITS: Part = part(37, 61);
 
 pub fn check(command: &[String]) -> Result<(), String> {
     let samples = samples();
@@ -54,7 +54,7 @@ pub fn check(command: &[String]) -> Result<(), String> {
     report(&samples, &files, &digit_lines)?;
     report_codes(&codes)?;
     println!("mistakes sown in these demands, all found: {SOWN_MISTAKES}");
-    swaps::check(command, samples)
+    Ok(())
 }
 
 fn trials_of_digit_lines() -> Vec<Trials> {
@@ -79,6 +79,13 @@ fn mistakes_about_codes(codes: &[Trials]) -> Vec<SownMistake> {
         codes.find_map(|code| SownMistake::in_a_demand(code, demand))
     });
     sown.collect()
+}
+
+fn hold(command: &[String], trials: &[Trials]) -> Result<(), String> {
+    match first_failure(command, trials)? {
+        Some(failure) => Err(failure.to_string()),
+        None => Ok(()),
+    }
 }
 
 /// In the list of places, and in each kind of demand on files and digit lines.
@@ -167,6 +174,11 @@ fn counts(all: &[Trials]) -> (usize, usize, usize) {
     (places.sum(), refused, accepted)
 }
 
+fn count(all: &[Trials], demand: Demand) -> usize {
+    let changes = all.iter().flat_map(|trials| trials.changes_with(demand));
+    changes.count()
+}
+
 /// The accepted changes at places of one sort.
 fn accepted_in(
     samples: &[Sample],
@@ -186,7 +198,7 @@ fn accepted_in(
 }
 
 fn is_free_digit(line: &MadeLine, place: usize) -> bool {
-    line.kind == RecordKind::J && BARCODE_FREE.places().contains(&place)
+    line.kind == RecordKind::J && FREE_DIGITS.places().contains(&place)
 }
 
 fn is_in_a_code(line: &MadeLine, place: usize) -> bool {

@@ -1,6 +1,5 @@
 //! What the papers demand beside what the program says: request by request, at
-//! guarded places, of swapped neighbours, and for files at the limits; and how a
-//! difference is shown.
+//! guarded places, and for files at the limits; and how a difference is shown.
 
 pub mod agreement;
 pub mod compare;
@@ -8,5 +7,4 @@ pub mod difference;
 pub mod expected;
 pub mod guarded;
 pub mod limits;
-pub mod swaps;
 pub mod trials;

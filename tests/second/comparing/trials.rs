@@ -1,5 +1,5 @@
 //! Trials of an accepted request: it is asked once as it is, and then again and
-//! again with one byte changed, or with two neighbours swapped.
+//! again with one byte changed.
 
 use std::fmt;
 use std::io;
@@ -9,26 +9,32 @@ use crate::asking::conversation::Conversation;
 use crate::asking::probe::Request;
 use crate::asking::replies::{Reply, MALFORMED};
 use crate::comparing::expected::expected_answer;
-use crate::damage::changes::{Change, Demand, Edit, Trials};
+use crate::damage::changes::{Change, Demand, Trials};
 use crate::paper::answers::ACCEPTED;
+use crate::paper::lines::LINE_BYTES;
 
 const REFUSED: &str = "NO";
 
 impl Change {
+    fn index(&self) -> usize {
+        self.line.saturating_sub(1) * LINE_BYTES + self.place - 1
+    }
+
     /// The lines before the changed one are good, so a refusal names none of
     /// them. An acceptance is the one of the unchanged request, or else that of
-    /// the changed one, and not both. To a swap the whole reply is the papers'.
+    /// the changed one, and not both.
     fn is_answered(&self, came: &Reply, unchanged: &Request, accepted: &Reply) -> bool {
-        let as_demanded = match self.demand {
+        match self.demand {
             Demand::Refusal => refused_line(&came.lines).is_some_and(|line| line >= self.line),
             Demand::Acceptance => came.lines == accepted.lines,
             Demand::OtherTotals => came != accepted && is_accepted(&self.made_in(unchanged), came),
-        };
-        as_demanded && (self.edit != Edit::Swap || *came == self.own_reply(unchanged))
+        }
     }
 
-    fn own_reply(&self, unchanged: &Request) -> Reply {
-        expected_answer(&self.made_in(unchanged)).as_reply()
+    fn made_in(&self, request: &Request) -> Request {
+        let mut changed = request.clone();
+        changed.payload[self.index()] = self.byte;
+        changed
     }
 }
 
@@ -51,34 +57,28 @@ impl Trials {
         for change in &self.changes {
             self.accepted.append_to(stream);
             let payload = stream.len() - self.accepted.payload.len();
-            change.make_in(&mut stream[payload..]);
+            stream[payload + change.index()] = change.byte;
         }
     }
 
     fn failure_in(&self, conversation: &mut Conversation) -> io::Result<Option<Failure>> {
         let accepted = conversation.next_reply(&self.accepted)?;
         if !is_accepted(&self.accepted, &accepted) {
-            let own = expected_answer(&self.accepted).as_reply();
-            return Ok(Some(self.failure(None, own, accepted)));
+            return Ok(Some(self.failure(None, accepted.lines)));
         }
         for change in &self.changes {
             // All requests have one header, and that tells how long a reply is.
             let came = conversation.next_reply(&self.accepted)?;
             if !change.is_answered(&came, &self.accepted, &accepted) {
-                let own = change.own_reply(&self.accepted);
-                return Ok(Some(self.failure(Some(*change), own, came)));
+                return Ok(Some(self.failure(Some(*change), came.lines)));
             }
         }
         Ok(None)
     }
 
-    fn failure(&self, change: Option<Change>, own: Reply, came: Reply) -> Failure {
-        Failure::Reply {
-            name: self.name.clone(),
-            change,
-            own: own.lines,
-            came: came.lines,
-        }
+    fn failure(&self, change: Option<Change>, came: Vec<u8>) -> Failure {
+        let name = self.name.clone();
+        Failure::Reply { name, change, came }
     }
 }
 
@@ -86,14 +86,6 @@ impl Trials {
 fn is_accepted(request: &Request, reply: &Reply) -> bool {
     let demanded = expected_answer(request).as_reply();
     reply.lines.starts_with(ACCEPTED.as_bytes()) && *reply == demanded
-}
-
-/// Fails at the first demand that the program breaks.
-pub fn hold(command: &[String], all: &[Trials]) -> Result<(), String> {
-    match first_failure(command, all)? {
-        Some(failure) => Err(failure.to_string()),
-        None => Ok(()),
-    }
 }
 
 /// All in one conversation with the program.
@@ -123,8 +115,6 @@ pub enum Failure {
     Reply {
         name: String,
         change: Option<Change>,
-        /// What the second program says itself.
-        own: Vec<u8>,
         came: Vec<u8>,
     },
     /// Bytes came behind the last reply.
@@ -145,13 +135,8 @@ impl Failure {
 
 impl fmt::Display for Failure {
     fn fmt(&self, out: &mut fmt::Formatter) -> fmt::Result {
-        let (name, change, own, came) = match self {
-            Failure::Reply {
-                name,
-                change,
-                own,
-                came,
-            } => (name, change, own.escape_ascii(), came.escape_ascii()),
+        let (name, change, came) = match self {
+            Failure::Reply { name, change, came } => (name, change, came.escape_ascii()),
             Failure::Surplus { came } => {
                 return write!(
                     out,
@@ -163,11 +148,9 @@ impl fmt::Display for Failure {
         let demanded = match change {
             None => "the unchanged request is not accepted as it should be",
             Some(change) => {
-                write!(out, "line {}, place {}, ", change.line, change.place)?;
-                match change.edit {
-                    Edit::Byte(byte) => write!(out, "byte {byte} ({}): ", byte.escape_ascii())?,
-                    Edit::Swap => write!(out, "swapped with the next: ")?,
-                }
+                let (line, place, byte) = (change.line, change.place, change.byte);
+                let shown = byte.escape_ascii();
+                write!(out, "line {line}, place {place}, byte {byte} ({shown}): ")?;
                 match change.demand {
                     Demand::Refusal => "a refusal is demanded",
                     Demand::Acceptance => "the same acceptance is demanded",
@@ -175,9 +158,6 @@ impl fmt::Display for Failure {
                 }
             }
         };
-        write!(
-            out,
-            "{demanded}, \"{own}\" is right, and \"{came}\" came, in {name}"
-        )
+        write!(out, "{demanded}, and \"{came}\" came, in {name}")
     }
 }

@@ -1,8 +1,7 @@
-//! An accepted request changed in one place, again and again, and what is demanded
+//! One byte of an accepted request changed, again and again, and what is demanded
 //! of each change.
 
 use crate::asking::probe::Request;
-use crate::paper::lines::LINE_BYTES;
 
 #[derive(Clone, Copy, PartialEq, Eq)]
 pub enum Demand {
@@ -24,45 +23,14 @@ impl Demand {
     }
 }
 
-/// What is done at a place.
-#[derive(Clone, Copy, PartialEq, Eq)]
-pub enum Edit {
-    /// Another byte is put there.
-    Byte(u8),
-    /// The byte there and the one behind it are swapped.
-    Swap,
-}
-
-/// One byte, changed, or two neighbours swapped.
+/// One byte, changed.
 #[derive(Clone, Copy)]
 pub struct Change {
     /// Counted from 1; 0 in a digit string.
     pub line: usize,
     pub place: usize,
-    pub edit: Edit,
+    pub byte: u8,
     pub demand: Demand,
-}
-
-impl Change {
-    fn index(&self) -> usize {
-        self.line.saturating_sub(1) * LINE_BYTES + self.place - 1
-    }
-
-    /// Makes the change in the payload of the unchanged request.
-    pub fn make_in(&self, payload: &mut [u8]) {
-        let index = self.index();
-        match self.edit {
-            Edit::Byte(byte) => payload[index] = byte,
-            Edit::Swap => payload.swap(index, index + 1),
-        }
-    }
-
-    /// The request with the change in it.
-    pub fn made_in(&self, request: &Request) -> Request {
-        let mut changed = request.clone();
-        self.make_in(&mut changed.payload);
-        changed
-    }
 }
 
 /// An accepted request, and the changes that are tried on it.
@@ -86,10 +54,4 @@ impl Trials {
         places.dedup();
         places.len()
     }
-}
-
-/// The changes of which this is demanded.
-pub fn count(all: &[Trials], demand: Demand) -> usize {
-    let changes = all.iter().flat_map(|trials| trials.changes_with(demand));
-    changes.count()
 }

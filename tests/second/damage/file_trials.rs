@@ -1,7 +1,7 @@
 //! Changes of one byte of a sample file, at guarded places and at others.
 
 use crate::asking::probe::{Op, Request, UNUSED};
-use crate::damage::changes::{Change, Demand, Edit, Trials};
+use crate::damage::changes::{Change, Demand, Trials};
 use crate::damage::free_letters::free_letters;
 use crate::damage::harmless_changes::harmless_changes;
 use crate::damage::other_bytes::other_bytes;
@@ -28,7 +28,7 @@ pub fn trials_of(random: &mut Random, sample: &Sample) -> Trials {
 pub fn trials_with(random: &mut Random, sample: &Sample, guard: Guard) -> Trials {
     let file = sample.file.bytes();
     Trials {
-        name: sample.name.clone(),
+        name: sample.name.to_string(),
         accepted: Request::new(Op::CheckFile, UNUSED, NO_ROOM, file),
         changes: refused_changes(random, &sample.file, guard),
     }
@@ -42,7 +42,7 @@ fn refused_changes(random: &mut Random, file: &MadeFile, guard: Guard) -> Vec<Ch
             changes.extend(others.into_iter().map(|byte| Change {
                 line: before + 1,
                 place,
-                edit: Edit::Byte(byte),
+                byte,
                 demand: Demand::Refusal,
             }));
         }

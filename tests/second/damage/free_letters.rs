@@ -1,7 +1,7 @@
 //! The letters of details that carry no claim: in a return an O without cents, read
 //! as a Z, leaves every total right, and so does a Z that might be such an O.
 
-use crate::damage::changes::{Change, Demand, Edit};
+use crate::damage::changes::{Change, Demand};
 use crate::making::good_files::{MadeFile, MadeLine};
 use crate::paper::collection_rules::{CollectionRules, COLLECTION_RULES};
 use crate::paper::lines::RECORD_BYTES;
@@ -23,7 +23,7 @@ pub fn free_letters(file: &MadeFile) -> Vec<Change> {
         Some(Change {
             line: before + 2,
             place: SEGMENT.first,
-            edit: Edit::Byte(byte),
+            byte,
             demand: Demand::OtherTotals,
         })
     });

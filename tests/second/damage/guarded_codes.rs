@@ -4,7 +4,7 @@
 
 use crate::asking::probe::{Request, UNUSED};
 use crate::checking::collection_claims::is_claimed;
-use crate::damage::changes::{Change, Demand, Edit, Trials};
+use crate::damage::changes::{Change, Demand, Trials};
 use crate::paper::answers::Verdict;
 use crate::paper::collection_codes::{CodeConversion, CodeRules};
 use crate::paper::Paper;
@@ -35,7 +35,7 @@ fn trials_with(conversion: CodeConversion, string: &[u8]) -> Trials {
             changes.push(Change {
                 line: NO_LINE,
                 place,
-                edit: Edit::Byte(byte),
+                byte,
                 demand,
             });
         }

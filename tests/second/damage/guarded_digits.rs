@@ -1,7 +1,7 @@
 //! Changes of one digit of accepted 47-digit lines.
 
 use crate::asking::probe::{Op, Request, UNUSED};
-use crate::damage::changes::{Change, Demand, Edit, Trials};
+use crate::damage::changes::{Change, Demand, Trials};
 use crate::paper::answers::Verdict;
 use crate::paper::digit_strings::{Conversion, DigitRules, BARCODE_DIGITS, LINE_DIGITS};
 use crate::paper::guarded_places::guarded_digits;
@@ -28,7 +28,7 @@ pub fn trials_of(barcode: &[u8]) -> Trials {
             changes.push(Change {
                 line: NO_LINE,
                 place,
-                edit: Edit::Byte(byte),
+                byte,
                 demand,
             });
         }

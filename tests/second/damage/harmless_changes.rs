@@ -2,7 +2,7 @@
 //! they must be accepted. A program that refuses every changed file fails here,
 //! and so does a list of guarded places that lacks an amount or a count.
 
-use crate::damage::changes::{Change, Demand, Edit};
+use crate::damage::changes::{Change, Demand};
 use crate::making::good_files::{MadeFile, MadeLine};
 use crate::making::random::Random;
 use crate::paper::boleto_rules::{BoletoRules, BOLETO_RULES};
@@ -28,7 +28,7 @@ pub fn harmless_changes(random: &mut Random, file: &MadeFile) -> Vec<Change> {
             changes.extend(byte.map(|byte| Change {
                 line: before + 1,
                 place,
-                edit: Edit::Byte(byte),
+                byte,
                 demand: demand_at(line.kind, place),
             }));
         }

@@ -1,5 +1,5 @@
 //! What can be wrong: fields, lines, files, calls, scripts and requests spoiled
-//! on purpose, and single bytes changed or neighbours swapped in accepted input.
+//! on purpose, and single bytes changed in accepted input.
 
 pub mod absence_flaws;
 pub mod absence_requests;
@@ -10,7 +10,6 @@ pub mod collection_flaws;
 pub mod digit_flaws;
 pub mod due_flaws;
 pub mod file_damage;
-pub mod file_swaps;
 pub mod file_trials;
 pub mod free_letters;
 pub mod guarded_codes;
@@ -23,5 +22,4 @@ pub mod malformed_scripts;
 pub mod other_bytes;
 pub mod record_flaws;
 pub mod registration_flaws;
-pub mod string_swaps;
 pub mod value_flaws;

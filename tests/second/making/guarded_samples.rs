@@ -19,7 +19,7 @@ use crate::paper::record_kinds::{Direction, RecordKind};
 const SEED: u64 = 20;
 
 pub struct Sample {
-    pub name: String,
+    pub name: &'static str,
     pub file: MadeFile,
 }
 
@@ -140,7 +140,7 @@ pub fn samples() -> Vec<Sample> {
     };
     let shapes = SHAPES.iter();
     let samples = shapes.map(|shape| Sample {
-        name: shape.name.to_string(),
+        name: shape.name,
         file: maker.file(shape),
     });
     let mut samples: Vec<Sample> = samples.collect();
@@ -159,7 +159,7 @@ fn with_a_z_for_an_o(samples: &[Sample]) -> Option<Sample> {
     line.kind = RecordKind::Z;
     SEGMENT.put(&mut line.bytes, b"Z");
     Some(Sample {
-        name: "return of a collection and a Z that might be one".to_string(),
+        name: "return of a collection and a Z that might be one",
         file,
     })
 }

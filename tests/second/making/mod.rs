@@ -3,7 +3,6 @@
 //! rules of the papers.
 
 pub mod absences;
-pub mod checks_and_factors;
 pub mod cuttings;
 pub mod due_dates;
 pub mod good_barcodes;
@@ -20,5 +19,3 @@ pub mod plain_files;
 pub mod plain_records;
 pub mod random;
 pub mod registrations;
-pub mod swap_samples;
-pub mod unequal_neighbours;

@@ -16,7 +16,7 @@ pub const LINE_CHECK_PLACE: usize = 33;
 pub const FIELD_CHECK_PLACES: [usize; 3] = [10, 21, 32];
 
 const GENERAL_MODULUS: u32 = 11;
-pub const LIGHTEST_WEIGHT: u32 = 2;
+const LIGHTEST_WEIGHT: u32 = 2;
 pub const HEAVIEST_WEIGHT: u32 = 9;
 const FIELD_WEIGHTS: [u32; 2] = [2, 1];
 const TEN: u32 = 10;
@@ -100,16 +100,15 @@ fn rows_in_order(conversion: Conversion) -> Vec<Row> {
 }
 
 pub trait DigitRules {
-    /// From the right, again and again.
-    fn weights(&self) -> Vec<u32> {
-        (LIGHTEST_WEIGHT..=HEAVIEST_WEIGHT).collect()
+    fn heaviest_weight(&self) -> u32 {
+        HEAVIEST_WEIGHT
     }
 
     /// The weighted sum modulo 11 over all digits but the check itself.
     fn general_remainder(&self, barcode: &[u8]) -> u32 {
         let (before_check, from_check) = barcode.split_at(BARCODE_CHECK_PLACE - 1);
         let others_from_the_right = before_check.iter().chain(&from_check[1..]).rev();
-        let weights = self.weights().into_iter().cycle();
+        let weights = (LIGHTEST_WEIGHT..=self.heaviest_weight()).cycle();
         let sum: u32 = others_from_the_right
             .zip(weights)
             .map(|(digit, weight)| value(*digit) * weight)

@@ -17,7 +17,6 @@
 //! | .. request 2 | `layout_table`, `record_rules`, `records`, `answers` |
 //! | .. request 5 | `collection_codes`, `collection_rules`, `layout_table`, `file_state`, `writer_rules` |
 //! | .. request 7 | `registration`, `record_rules`, `line_order`, `writer_order` |
-//! | .. request 11 | `guarded_swaps` |
 //!
 //! A rule is a method of a trait, and its body is what the paper says. `Paper`
 //! takes every rule as it stands. That a rule can be replaced from outside is
@@ -34,7 +33,6 @@ pub mod examples;
 pub mod file_reader;
 pub mod file_state;
 pub mod guarded_places;
-pub mod guarded_swaps;
 pub mod layout_table;
 pub mod line_checker;
 pub mod line_order;

@@ -70,8 +70,6 @@ pub const J52_MARK: Part = part(18, 19);
 pub const BARCODE_CHECK: Part = part(22, 22);
 pub const FACTOR: Part = part(23, 26);
 pub const BARCODE_CENTS: Part = part(27, 36);
-/// The digits that only the general check looks at.
-pub const BARCODE_FREE: Part = part(37, 61);
 pub const DUE: Part = part(92, 99);
 pub const NOMINAL: Part = part(100, 114);
 pub const DISCOUNT: Part = part(115, 129);

@@ -2,22 +2,16 @@
 
 use super::faults::Fault;
 use super::order::move_before;
-use super::swap_faults;
 use super::Sown;
 use crate::paper::answers::Verdict;
-use crate::paper::digit_strings::BARCODE_CHECK_PLACE;
 use crate::paper::digit_strings::{Conversion, DigitRules, Part, Row};
+use crate::paper::digit_strings::{BARCODE_CHECK_PLACE, HEAVIEST_WEIGHT};
 use crate::paper::numbers::{NON_DIGIT_IN_A_STRING, WRONG_GENERAL_CHECK};
 use crate::paper::Paper;
 
 impl DigitRules for Sown {
-    fn weights(&self) -> Vec<u32> {
-        let mut weights = Paper.weights();
-        if self.has(Fault::WeightsStopAtEight) {
-            weights.pop();
-        }
-        let mistaken = self.swap_fault().and_then(swap_faults::weights);
-        mistaken.unwrap_or(weights)
+    fn heaviest_weight(&self) -> u32 {
+        HEAVIEST_WEIGHT - u32::from(self.has(Fault::WeightsStopAtEight))
     }
 
     fn check_of_remainder(&self, remainder: u32) -> u8 {
@@ -66,9 +60,6 @@ impl DigitRules for Sown {
         };
         for (moved, other) in moves {
             move_before(&mut rows, *moved, *other);
-        }
-        if let Some(fault) = self.swap_fault() {
-            swap_faults::disturb_rows(fault, &mut rows);
         }
         rows
     }

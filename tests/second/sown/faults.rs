@@ -9,7 +9,6 @@ use super::names::hyphenated;
 use super::part_faults::{PartFault, PART_FAULTS};
 use super::record_rooms::{RecordRoomFault, RECORD_ROOM_FAULTS};
 use super::registration_faults::{RegistrationFault, REGISTRATION_FAULTS};
-use super::swap_faults::{SwapFault, SWAP_FAULTS};
 use super::totals::{TotalsFault, TOTALS_FAULTS};
 use super::writer_faults::{of_the_writer, WriterFault, WRITER_FAULTS};
 use crate::asking::probe::{Op, Request};
@@ -107,7 +106,6 @@ pub enum Fault {
     /// Of the reader, and then the same of the writer.
     Totals(TotalsFault),
     Limit(LimitFault),
-    Swap(SwapFault),
     Parts(PartFault),
     Writer(WriterFault),
     WriterTotals(TotalsFault),
@@ -406,12 +404,6 @@ fn named(faults: &[(&str, Fault)]) -> Vec<(String, Fault)> {
 pub fn limit_faults() -> Vec<(String, Fault)> {
     let faults = LIMIT_FAULTS.iter();
     faults.map(|f| (hyphenated(f), Fault::Limit(*f))).collect()
-}
-
-/// Mistakes of the reader, and about digit strings, that swapped neighbours show.
-pub fn swap_faults() -> Vec<(String, Fault)> {
-    let faults = SWAP_FAULTS.iter();
-    faults.map(|f| (hyphenated(f), Fault::Swap(*f))).collect()
 }
 
 /// Mistakes of the writer that no script is long enough to show.

@@ -6,7 +6,6 @@ use super::faults::Fault;
 use super::limits;
 use super::order::move_before;
 use super::registration_order;
-use super::swap_faults::{are_equal_by_nines, SwapFault};
 use super::Sown;
 use crate::paper::boleto_rules::BoletoRule;
 use crate::paper::file_state::{Batch, BatchKind, Last, State};
@@ -142,8 +141,7 @@ impl LineRules for Sown {
     fn sum_is_right(&self, state: &State, line: &[u8]) -> bool {
         let untested = self.has(Fault::SumTestedInFirstBatchOnly) && state.batches > 1;
         let sum = u128::from(BATCH_SUM.number(line));
-        let batch = state.batch();
-        untested || batch.is_some_and(|batch| self.are_equal_sums(self.sum_of(batch), sum))
+        untested || state.batch().map(|batch| self.sum_of(batch)) == Some(sum)
     }
 
     fn sum_of(&self, batch: &Batch) -> u128 {
@@ -188,13 +186,6 @@ impl LineRules for Sown {
 }
 
 impl Sown {
-    fn are_equal_sums(self, one: u128, other: u128) -> bool {
-        match self.fault {
-            Fault::Swap(SwapFault::SumsComparedByNines) => are_equal_by_nines(one, other),
-            _ => one == other,
-        }
-    }
-
     /// A row, and the other that it is tested before.
     fn row_moved(self, rows: &[Row]) -> Option<(Row, Row)> {
         let mut fields = rows.iter().filter(|row| matches!(row, Row::Field(_)));

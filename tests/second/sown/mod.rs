@@ -32,7 +32,6 @@ mod registration_characters;
 mod registration_faults;
 mod registration_order;
 mod registrations;
-mod swap_faults;
 mod totals;
 mod writer;
 mod writer_faults;
@@ -50,7 +49,6 @@ use limits::LimitFault;
 use part_faults::PartFault;
 use record_rooms::RecordRoomFault;
 use registration_faults::RegistrationFault;
-use swap_faults::SwapFault;
 use totals::TotalsFault;
 use writer_faults::WriterFault;
 
@@ -128,14 +126,6 @@ impl Sown {
     fn writer_totals_fault(self) -> Option<TotalsFault> {
         match self.fault {
             Fault::WriterTotals(fault) => Some(fault),
-            _ => None,
-        }
-    }
-
-    /// The fault, if it is one about digits in the wrong order.
-    fn swap_fault(self) -> Option<SwapFault> {
-        match self.fault {
-            Fault::Swap(fault) => Some(fault),
             _ => None,
         }
     }

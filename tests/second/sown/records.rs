@@ -5,7 +5,6 @@ use super::collection_faults::CollectionFault;
 use super::collection_fields;
 use super::faults::Fault;
 use super::order::move_before;
-use super::swap_faults::SwapFault;
 use super::Sown;
 use crate::paper::answers::{Answer, FieldValue, Verdict};
 use crate::paper::calendar::Calendar;
@@ -137,9 +136,6 @@ impl RecordRules for Sown {
         let right = Paper.barcode_refusal(field, content);
         match self.fault {
             Fault::BarcodeCurrencyBeforeDigits => currency_refusal(field, content).or(right),
-            Fault::Swap(SwapFault::CurrencyNotTested) => {
-                right.filter(|_| currency_refusal(field, content) != right)
-            }
             _ => right,
         }
     }

@@ -1,7 +1,7 @@
 -- Demand 3 for digit strings: another byte at a guarded place of an accepted barcode or line, and two neighbours of a barcode swapped, are refused.
 -- Assumes nothing.
-use Rattle.std.specs.Prelude.{◌≡◌, ◌≢◌, not, List, ℕ, suc, ◌+◌, ◌-◌, ◌<◌, ◌≤◌, length, get_or, take, drop, set, T}
-use Rattle.std.proofs.Common.{sym, ap, ◌∙◌, append_assoc, arith, length-take, length-drop, get_or-set_same}
+use Rattle.std.specs.Prelude.{◌≡◌, ◌≢◌, ◌⊎◌, not, List, ◌∷◌, ◌++◌, ℕ, suc, ◌+◌, ◌-◌, ◌<◌, ◌≤◌, length, get_or, take, drop, set, T}
+use Rattle.std.proofs.Common.{sym, ap, ◌∙◌, inl, inr, ⊎_elim, append_assoc, arith, length-take, length-drop, length-append, get_or-set_same, get_or-append-add}
 use Rattle.std.proofs.Math.Decide.{dec_lt}
 use Rattle.std.proofs.lemmas.List.{set-append_left, set-get_or}
 use Rattle.answer.specs.Rules.{first_broken}
@@ -9,9 +9,10 @@ use Rattle.answer.specs.declared.Answer.TheVariants.{Accepted}
 use Rattle.digits.specs.Digits.{digit_byte, place, swapped}
 use Rattle.digits.proofs.laws.Strings.{Digits, part_set, part_kept, set_append_right}
 use Rattle.digits.proofs.laws.Moduli.{blind, ten_tells_digits, eleven_tells_digits}
-use Rattle.digits.proofs.laws.Seals.{Sealed, one_change, neighbours}
+use Rattle.digits.proofs.laws.Seals.{Sealed, one_change, neighbours, neighbours_swapped}
 use Rattle.digits.specs.declared.sealing.Modulus.TheVariants.{Ten, Eleven}
-use Rattle.boleto.specs.Strings.{barcode_digits, line_digits, line_check, barcode_of}
+use Rattle.std.proofs.Math.Seq.{get_or-append_seam}
+use Rattle.boleto.specs.Strings.{barcode_digits, line_digits, barcode_check, line_check, barcode_of}
 use Rattle.boleto.specs.Rules.{barcode_rules, digit_line_rules}
 use Rattle.boleto.specs.Guarded.{GuardedInBarcode, GuardedPairInBarcode, GuardedInLine, all, currency, check, checked, rest}
 use Rattle.boleto.proofs.laws.Parts.{stored_digit, other_than, part_same}
@@ -39,6 +40,17 @@ barcode_change bar p v e currency ne e' =
 barcode_change bar p v e check ne e' =
     ne (barcode_same bar 4 v (barcode-of bar e) (barcode-of (set bar 4 v) e') (omega arith) (λ n. absurd (n (omega arith))))
 
+-- two unequal neighbours swapped, neither of them the check digit, are refused when it isn't 1
+pub barcode_neighbours : (xs zs : List ℕ) (a b : ℕ) → first_broken (barcode_rules (xs ++ a ∷ b ∷ zs)) ≡ Accepted → place barcode_check (xs ++ a ∷ b ∷ zs) ≢ digit_byte 1 →
+    (length xs < 3) ⊎ (4 < length xs) → a ≢ b → first_broken (barcode_rules (xs ++ b ∷ a ∷ zs)) ≢ Accepted
+barcode_neighbours xs zs a b e f w ne e' =
+    let c = barcode-of (xs ++ a ∷ b ∷ zs) e in
+    let c' = barcode-of (xs ++ b ∷ a ∷ zs) e' in
+    let long = length-append xs (a ∷ b ∷ zs) in
+    let da = rw (get_or-append_seam xs a (b ∷ zs) 0) at (c.digits.each (length xs) (omega arith)) in
+    let db = rw (get_or-append-add xs (a ∷ b ∷ zs) 1 0) at (c.digits.each (length xs + 1) (omega arith)) in
+    ne (neighbours xs zs a b 4 c.seal c'.seal da db (⊎_elim (λ l. inr (omega arith)) (λ g. inl g) w) (other_than 1 _ (c.digits.each 4 (omega arith)).0 f))
+
 -- two unequal neighbours of an accepted barcode swapped are refused where swaps are guarded
 pub barcode_swap : (bar : List ℕ) (p : ℕ) → first_broken (barcode_rules bar) ≡ Accepted → GuardedPairInBarcode bar p → place p bar ≢ place (suc p) bar →
     first_broken (barcode_rules (swapped p bar)) ≢ Accepted
@@ -51,7 +63,7 @@ barcode_swap bar p e g ne e' =
     rw next (ap (λ (k : ℕ). set (set bar i (get_or bar k 0)) k (get_or bar i 0)) at) in
     let b' = barcode-of _ (rw by_index at e') in
     let few : suc i < length bar = omega (arith, g.to_last, b.long) in
-    let same = neighbours bar 4 i few b.seal b'.seal (b.digits.each i (omega arith)) (b.digits.each (suc i) few)
+    let same = neighbours_swapped bar 4 i few b.seal b'.seal (b.digits.each i (omega arith)) (b.digits.each (suc i) few)
     (λ q. g.left_not_check (omega arith)) (λ q. g.right_not_check (omega arith)) (other_than 1 _ (b.digits.each 4 (omega arith)).0 g.not_one) in
     ne (same ∙ ap (λ (k : ℕ). get_or bar k 0) (sym at ∙ sym next))
 

@@ -136,10 +136,16 @@ module _ (m : Modulus) (bs : List ℕ) (p i v : ℕ) (hp : p < length bs) (hi : 
         go (no ne) (yes l) = beside (inl (omega (arith, len))) (f ne)
         go (no ne) (no l) = beside (inr (omega (arith, len))) (f ne)
 
+pub neighbours : (xs zs : List ℕ) (a b p : ℕ) → Sealed Eleven p (xs ++ a ∷ b ∷ zs) → Sealed Eleven p (xs ++ b ∷ a ∷ zs) →
+    Digit a → Digit b → (p < length xs) ⊎ (length xs + 2 ≤ p) → T (not (blind Eleven (slice_index (xs ++ a ∷ b ∷ zs) p - 48))) → a ≡ b
+neighbours xs zs a b p s s' da db w f =
+    let r = parts Eleven (a ∷ b ∷ []) (b ∷ a ∷ []) refl xs zs p w s s' f in
+    same_digit a b da db (eleven_tells_neighbours.tells r.0 (digit_of a) (digit_of b) (digit_small a) (digit_small b) (simp two at r.1))
+
 -- two neighbours swapped, neither of them the check digit
-pub neighbours : (bs : List ℕ) (p i : ℕ) → suc i < length bs → Sealed Eleven p bs → Sealed Eleven p (slice_set (slice_set bs i (slice_index bs (suc i))) (suc i) (slice_index bs i)) →
+pub neighbours_swapped : (bs : List ℕ) (p i : ℕ) → suc i < length bs → Sealed Eleven p bs → Sealed Eleven p (slice_set (slice_set bs i (slice_index bs (suc i))) (suc i) (slice_index bs i)) →
     Digit (slice_index bs i) → Digit (slice_index bs (suc i)) → i ≢ p → suc i ≢ p → T (not (blind Eleven (slice_index bs p - 48))) → slice_index bs i ≡ slice_index bs (suc i)
-neighbours bs p i h s s' da db ne ne' f =
+neighbours_swapped bs p i h s s' da db ne ne' f =
     let a = slice_index_or bs i 0 in
     let b = slice_index_or bs (suc i) 0 in
     let was = two_split bs i h in

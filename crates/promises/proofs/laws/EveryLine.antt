@@ -24,8 +24,7 @@ use Rattle.promises.proofs.laws.ReadAs.{PassedAs, read_as, as_many}
 use Rattle.promises.proofs.laws.Build.{built_as}
 use Rattle.promises.proofs.laws.Accepted.{lines_back, accepted_exactly}
 use Rattle.promises.proofs.laws.Listed.{as_listed}
-use Rattle.promises.proofs.laws.LinesAt.{line_there}
-use Rattle.promises.proofs.laws.Change.{change_refused}
+use Rattle.promises.proofs.laws.Change.{line_there, change_refused}
 
 -- ---- an accepted file is whole lines
 
@@ -73,7 +72,7 @@ module _ (file : List ℕ) (t : Totals) (n p : ℕ) (e : check_file file ≡ Acc
             which = get_or (records_in_file m.file) n FileHeader;
             read = all.each n (omega (arith, all.as_many));
             inside = omega (arith, file_long file t e);
-            so = listed at;
+            guarded = listed at;
           }
 
   -- so another byte there is refused

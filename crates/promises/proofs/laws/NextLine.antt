@@ -26,7 +26,7 @@ use Rattle.layout.specs.declared.shapes.Phase.{Phase}
 use Rattle.layout.specs.declared.shapes.Phase.TheVariants.{Headed, Within, BehindZ}
 use Rattle.checker.specs.declared.Checker.{Checker}
 use Rattle.promises.specs.Grammar.{RightLine}
-use Rattle.promises.specs.Guarded.{LetterGuarded, in_remittance, of_credits, of_boletos, DifferIn}
+use Rattle.promises.specs.Guarded.{In, LetterGuarded, in_remittance, of_credits, of_boletos}
 use Rattle.checker.specs.inner.Steps.{is_return}
 use Rattle.checker.proofs.laws.Edges.{next_in, stands_moves}
 use Rattle.checker.specs.inner.Following.{goes_on, pays_behind_z, Follows, first_batch, pays, adds_z, closes_paid, closes_behind_z}
@@ -36,7 +36,7 @@ use Rattle.checker.proofs.laws.Sums.{together}
 use Rattle.checker.proofs.laws.Details.{AllRead, Open, at_within, at_paid, at_behind_z, detail_of}
 use Rattle.checker.proofs.laws.Asks.{letter_at}
 use Rattle.promises.proofs.laws.Facts.{Fits}
-use Rattle.promises.proofs.laws.Differ.{not_worth}
+use Rattle.promises.proofs.laws.Differ.{Differ, not_worth}
 use Rattle.promises.proofs.laws.SameLine.{right_at}
 use Rattle.promises.proofs.laws.Behind.{Ends, Goes, goes, at_last}
 
@@ -59,11 +59,12 @@ one_bank (l ∷ ls) {s} {s'} p p' e e' =
     let f' = subst (λ (r : Record). Fits r s' l) (header_next (follows_at refl p' g'.follows)) g'.fitting in
     cc (f.numbers.0, f'.numbers.0)
 
-pub not_bank : {s : Checker} {ls : List (List ℕ)} (l l' : List ℕ) → DifferIn bank_field (record_in l) (record_in l') → Goes FileHeader s l ls → Goes FileHeader s l' ls → ⊥
-unfolding fields_of AllKept
-not_bank {ls = ls} l l' d g g' =
-    not_worth d (omega arith) (right_at g.fitting.right 0 (lit≤ tt)).0 (right_at g'.fitting.right 0 (lit≤ tt)).0
-    (one_bank ls refl refl g.rest g'.rest)
+module _ {p : ℕ} {s : Checker} {ls : List (List ℕ)} (l l' : List ℕ) (d : Differ p (record_in l) (record_in l')) where
+  pub not_bank : Goes FileHeader s l ls → Goes FileHeader s l' ls → In bank_field p → ⊥
+  unfolding fields_of AllKept
+  not_bank g g' =
+      not_worth d bank_field (omega arith) (right_at g.fitting.right 0 (lit≤ tt)).0 (right_at g'.fitting.right 0 (lit≤ tt)).0
+      (one_bank ls refl refl g.rest g'.rest)
 
 -- ---- a Z for a payment's first record: the second record can't stand behind it
 
@@ -166,24 +167,24 @@ not_twins (l ∷ ls) {s} {s'} w e e' =
     (λ t. not_twins ls (twins_next r rec t w) g.rest g'.rest)
     (trailer_or_detail w.still g.follows)
 
-module _ {s : Checker} {ls : List (List ℕ)} (l l' : List ℕ) where
+module _ {p : ℕ} {s : Checker} {ls : List (List ℕ)} (l l' : List ℕ) (d : Differ p (record_in l) (record_in l')) where
   -- of a record that has this amount
-  not_summed : (r : Record) (f : Field) → DifferIn f (record_in l) (record_in l') → type_of r ≡ digit_byte 3 → ((rec : List ℕ) → cents_of r rec ≡ value (part f rec))
-      → f.to - (f.from - 1) ≤ most_digits → all_digits (part f (record_in l)) ≡ true → all_digits (part f (record_in l')) ≡ true → Goes r s l ls → Goes r s l' ls → ⊥
+  not_summed : (r : Record) (f : Field) → type_of r ≡ digit_byte 3 → ((rec : List ℕ) → cents_of r rec ≡ value (part f rec)) → f.to - (f.from - 1) ≤ most_digits
+      → all_digits (part f (record_in l)) ≡ true → all_digits (part f (record_in l')) ≡ true → Goes r s l ls → Goes r s l' ls → In f p → ⊥
   unfolding add
-  not_summed r f d e worth few a a' g g' =
+  not_summed r f e worth few a a' g g' h =
       let k = detail_of r e in
-      let same : cents_of r (record_in l) ≡ cents_of r (record_in l') → ⊥ = λ q. not_worth d few a a' (sym (worth (record_in l)) ∙ q ∙ worth (record_in l')) in
+      let same : cents_of r (record_in l) ≡ cents_of r (record_in l') → ⊥ = λ q. not_worth d f few a a' (sym (worth (record_in l)) ∙ q ∙ worth (record_in l')) h in
       let twins : Twins (next r s (record_in l)) (next r s (record_in l')) = rw (k.moves s (record_in l), k.moves s (record_in l'))
       (record { still = k.stays; phases = refl; directions = refl; batches = refl; cents = λ q. same (omega (arith, together r (record_in l), together r (record_in l'))) }) in
       not_twins ls twins g.rest g'.rest
 
-  pub not_credit : DifferIn credit_amount (record_in l) (record_in l') → Goes SegmentA s l ls → Goes SegmentA s l' ls → ⊥
+  pub not_credit : Goes SegmentA s l ls → Goes SegmentA s l' ls → In credit_amount p → ⊥
   unfolding fields_of AllKept
-  not_credit d g g' =
-      not_summed SegmentA credit_amount d refl (λ rec. refl) (omega arith) (right_at g.fitting.right 19 (lit≤ tt)).0 (right_at g'.fitting.right 19 (lit≤ tt)).0 g g'
+  not_credit g g' =
+      not_summed SegmentA credit_amount refl (λ rec. refl) (omega arith) (right_at g.fitting.right 19 (lit≤ tt)).0 (right_at g'.fitting.right 19 (lit≤ tt)).0 g g'
 
-  pub not_collection : DifferIn collection_amount (record_in l) (record_in l') → Goes SegmentO s l ls → Goes SegmentO s l' ls → ⊥
+  pub not_collection : Goes SegmentO s l ls → Goes SegmentO s l' ls → In collection_amount p → ⊥
   unfolding fields_of AllKept
-  not_collection d g g' =
-      not_summed SegmentO collection_amount d refl (λ rec. refl) (omega arith) (right_at g.fitting.right 11 (lit≤ tt)).0 (right_at g'.fitting.right 11 (lit≤ tt)).0 g g'
+  not_collection g g' =
+      not_summed SegmentO collection_amount refl (λ rec. refl) (omega arith) (right_at g.fitting.right 11 (lit≤ tt)).0 (right_at g'.fitting.right 11 (lit≤ tt)).0 g g'

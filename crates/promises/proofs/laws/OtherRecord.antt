@@ -1,9 +1,10 @@
--- Two lines at one state that differ only inside a field, both on the way to the end, are read as one record, if the field does not hold the letter or
--- the letter is guarded, and if it holds no other place with the type. Assumes nothing.
+-- Two lines at one state that differ at one place, both on the way to the end, are read as one record, if the place is no letter or the letter is
+-- guarded. Assumes nothing.
 use Rattle.std.proofs.Math.Path.{◌≡◌, subst, subst⁻¹}
 use Rattle.std.specs.Prelude.{refl, ◌≢◌, List, ℕ, length, take, drop}
 use Rattle.std.proofs.Common.{sym, ap, ◌∙◌, lit≤, take-take}
 use native.Mathlib.Omega.{arith}
+use Rattle.std.proofs.Math.Decide.{ℕ_discrete}
 use Rattle.std.proofs.lemmas.Bool.{eqb-false}
 use Rattle.answer.specs.Rules.{AllKept}
 use Rattle.answer.proofs.laws.Order.{never}
@@ -24,7 +25,7 @@ use Rattle.checker.specs.Line.{ordinal, trailer_batch, record_in}
 use Rattle.layout.specs.declared.shapes.Phase.{Phase}
 use Rattle.checker.specs.declared.Checker.{Checker}
 use Rattle.promises.specs.Grammar.{RightLine}
-use Rattle.promises.specs.Guarded.{In, LetterGuarded, DifferIn}
+use Rattle.promises.specs.Guarded.{In, LetterGuarded}
 use Rattle.checker.proofs.laws.Edges.{next_in, one_next}
 use Rattle.checker.specs.inner.Following.{pays_behind, Follows, heads, first_batch, pays, adds_z, closes_paid, closes_behind_z, next_batch, ends}
 use Rattle.checker.proofs.laws.Payments.{row, one_stands}
@@ -32,7 +33,7 @@ use Rattle.checker.specs.inner.Following.{Stands}
 use Rattle.checker.proofs.laws.Asks.{letter_at}
 use Rattle.checker.proofs.laws.Details.{Asked, AllRead, detail_of}
 use Rattle.promises.proofs.laws.Facts.{Fits}
-use Rattle.promises.proofs.laws.Differ.{turned, holds, kept}
+use Rattle.promises.proofs.laws.Differ.{Differ, turned, kept}
 use Rattle.promises.proofs.laws.SameLine.{right_at}
 use Rattle.promises.proofs.laws.Behind.{Goes}
 use Rattle.promises.proofs.laws.NextLine.{not_z}
@@ -92,13 +93,11 @@ blank_number l a =
     let is = same_true (run blank (length bs)) bs (right_at a 3 (lit≤ tt)).0 in
     ap number_of (sym (take-take 5 9 (drop 8 (record_in l)) (omega arith)) ∙ ap (take 5) (sym is ∙ ap (run blank) long))
 
-module _ {f : Field} (s : Checker) (l l' : List ℕ) (d : DifferIn f (record_in l) (record_in l')) (alone : In f type_place → (f.from ≡ type_place) × (f.to ≡ type_place)) where
+module _ {p : ℕ} (s : Checker) (l l' : List ℕ) (d : Differ p (record_in l) (record_in l')) where
   -- where the types differ, other fields read the same
-  aside : (g : Field) → (In g type_place → ⊥) → place type_place (record_in l) ≢ place type_place (record_in l')
-      → number_of (part g (record_in l)) ≡ number_of (part g (record_in l'))
-  aside g out ne =
-      let only = alone (holds d type_place (lit≤ tt) ne) in
-      ap number_of (kept d g (λ q h i k. let at : q ≡ type_place = omega arith in out (subst (In g) at k)))
+  aside : (f : Field) → (In f type_place → ⊥) → place type_place (record_in l) ≢ place type_place (record_in l')
+      → number_of (part f (record_in l)) ≡ number_of (part f (record_in l'))
+  aside f out ne = ap number_of (kept d f (λ k. ne (d.other type_place (omega arith) (λ e. out (subst (In f) (sym e) k)))))
 
   not_closes : {r : Record} → type_of r ≡ digit_byte 3 → Fits r s l → Fits BatchTrailer s l'
       → number_of (part number_field (record_in l)) ≡ number_of (part number_field (record_in l')) → ⊥
@@ -116,8 +115,8 @@ module _ {f : Field} (s : Checker) (l l' : List ℕ) (d : DifferIn f (record_in 
       omega (arith, f.limit)
 
   -- a payment's first record and a Z have other letters, so they differ there
-  at_letter : {r : Record} {ls : List (List ℕ)} → Stands s.batch 0 r → Goes r s l ls → Goes SegmentZ s l' ls → In f segment_place
-  at_letter {r} h g g' = holds d segment_place (lit≤ tt) letters
+  at_letter : {r : Record} {ls : List (List ℕ)} → Stands s.batch 0 r → Goes r s l ls → Goes SegmentZ s l' ls → p ≡ segment_place
+  at_letter {r} h g g' = go (ℕ_discrete p segment_place)
     where
       letters : place segment_place (record_in l) ≢ place segment_place (record_in l')
       letters e =
@@ -125,18 +124,21 @@ module _ {f : Field} (s : Checker) (l l' : List ℕ) (d : DifferIn f (record_in 
           let z = letter_at SegmentZ _ (record_in l') g'.fitting.right.fields refl refl in
           eqb-false (row h).letter letter_z (row h).no_z (sym own ∙ e ∙ z)
 
-  not_apart : {r r' : Record} {ls : List (List ℕ)} → (type_of r ≡ digit_byte 3 → type_of r' ≡ digit_byte 3 → In f segment_place → LetterGuarded s.dir s.batch)
+      go : Dec (p ≡ segment_place) → p ≡ segment_place
+      go (yes e) = e
+      go (no ne) = absurd (letters (d.other segment_place (omega arith) (λ e. ne (sym e))))
+
+  not_apart : {r r' : Record} {ls : List (List ℕ)} → (type_of r ≡ digit_byte 3 → type_of r' ≡ digit_byte 3 → p ≡ segment_place → LetterGuarded s.dir s.batch)
       → Apart s.dir s.batch r r' → Goes r s l ls → Goes r' s l' ls → ⊥
   not_apart c (pays_or_closes e) g g' = not_closes e g.fitting g'.fitting (aside number_field (λ k. omega arith) (λ q. omega (arith, g.typed, g'.typed)))
   not_apart c opens_or_ends g g' = not_ends g.fitting g'.fitting (aside batch_field (λ k. omega arith) (λ q. omega (arith, g.typed, g'.typed)))
   not_apart c (begins_or_z e h) g g' = not_z l l' (c (row h).type refl (at_letter h g g')) e h g g'
 
-pub one_record : {f : Field} {s : Checker} {r r' : Record} {ls : List (List ℕ)} (l l' : List ℕ)
-    → DifferIn f (record_in l) (record_in l') → (In f type_place → (f.from ≡ type_place) × (f.to ≡ type_place))
-    → (type_of r ≡ digit_byte 3 → In f segment_place → LetterGuarded s.dir s.batch) → Goes r s l ls → Goes r' s l' ls → r ≡ r'
-one_record {s = s} {r = r} {r' = r'} l l' d alone c g g' = go (two g.follows g'.follows)
+pub one_record : {p : ℕ} {s : Checker} {r r' : Record} {ls : List (List ℕ)} (l l' : List ℕ)
+    → Differ p (record_in l) (record_in l') → (type_of r ≡ digit_byte 3 → p ≡ segment_place → LetterGuarded s.dir s.batch) → Goes r s l ls → Goes r' s l' ls → r ≡ r'
+one_record {s = s} {r = r} {r' = r'} l l' d c g g' = go (two g.follows g'.follows)
   where
     go : Two s.dir s.batch r r' → r ≡ r'
     go (one e) = e
-    go (apart a) = absurd (not_apart s l l' d alone (λ e e'. c e) a g g')
-    go (apart_turned a) = absurd (not_apart s l' l (turned d) alone (λ e e'. c e') a g' g)
+    go (apart a) = absurd (not_apart s l l' d (λ e e'. c e) a g g')
+    go (apart_turned a) = absurd (not_apart s l' l (turned d) (λ e e'. c e') a g' g)

@@ -1,16 +1,16 @@
--- Two right lines, read as one record at one state, that differ only inside a field: it isn't a number that the state gives, a field of fixed content
--- or the letter; and where a detail has its letter no field is fixed, and where a line has its type no field holds more. Assumes nothing.
-use Rattle.std.specs.Prelude.{◌≡◌, refl, Bool, true, not, ◌&&◌, ◌||◌, ℕ, ◌<◌, T, ltb, eqb, length, get_or}
-use Rattle.std.proofs.Common.{sym, subst, ◌∙◌, arith, ltb-true, le-ltb, eqb→eq, lit≤}
+-- Two right lines, read as one record at one state, that differ at one place: it isn't a place of a number that the state gives, of fixed content
+-- or of the letter; and where a detail has its letter no field is fixed. Assumes nothing.
+use Rattle.std.specs.Prelude.{◌≡◌, refl, Bool, true, not, ◌&&◌, ◌||◌, ℕ, suc, ◌≤◌, ◌<◌, T, ltb, length, get_or}
+use Rattle.std.proofs.Common.{sym, subst, ◌∙◌, arith, ltb-true, lit≤}
 use mathlib.Core.List.{List, [], ◌∷◌, Memᴰ}
-use Rattle.std.proofs.Math.Decide.{dec_lt}
+use Rattle.std.proofs.Math.Decide.{dec_le}
 use Rattle.answer.specs.Rules.{AllKept}
 use Rattle.answer.proofs.laws.Order.{kept_front, kept_behind}
 use Rattle.digits.specs.Digits.{digit_byte, place}
 use Rattle.digits.proofs.laws.Tests.{both, so}
 use Rattle.layout.specs.Field.{Kind, Segment, Field, none}
-use Rattle.layout.specs.Records.{shape_of, is_detail, type_of, letter_of}
-use Rattle.layout.specs.Table.{own, fields_of, type_place, segment_place, segment_field}
+use Rattle.layout.specs.Records.{shape_of, is_detail, type_of}
+use Rattle.layout.specs.Table.{own, fields_of, segment_place}
 use Rattle.layout.specs.Kinds.{a_part, means, run, blank, text}
 use Rattle.layout.specs.Record.{field_rules, rules_of}
 use Rattle.layout.proofs.laws.Tiling.{All, at, of_member, Inside, insides}
@@ -20,21 +20,29 @@ use Rattle.layout.specs.declared.Direction.{Direction}
 use Rattle.layout.specs.declared.Record.{Record}
 use Rattle.checker.specs.Line.{record_in}
 use Rattle.promises.specs.Grammar.{RightLine}
-use Rattle.promises.specs.Guarded.{In, Fixed, blanks, zeros, exact, optional, DifferIn}
+use Rattle.promises.specs.Guarded.{On, In, Fixed, blanks, zeros, exact, optional}
 use Rattle.checker.proofs.laws.Details.{Asked, AllRead, detail_of}
 use Rattle.checker.proofs.laws.Asks.{letter_at}
-use Rattle.promises.proofs.laws.Differ.{somewhere, same_long, apart, reads_same, content_same}
+use Rattle.promises.proofs.laws.Differ.{Differ, same_long, apart, reads_same, content_same}
 
 -- ---- numbers that the state gives
 
--- one of these fields
-pub data Among (f : Field) : Asked → Type 0 where
-  this : {k : ℕ} {more : Asked} → Among f ((f, k) ∷ more)
-  later : {a : Field × ℕ} {more : Asked} → Among f more → Among f (a ∷ more)
+-- a place that one of these fields holds
+pub data Among (p : ℕ) : Asked → Type 0 where
+  this : {a : Field × ℕ} {more : Asked} → In a.0 p → Among p (a ∷ more)
+  later : {a : Field × ℕ} {more : Asked} → Among p more → Among p (a ∷ more)
 
-pub not_asked : {f : Field} {fs : Asked} (l l' : List ℕ) → DifferIn f (record_in l) (record_in l') → Among f fs → AllRead fs (record_in l) → AllRead fs (record_in l') → ⊥
+-- one of two neighbours
+pub either : {f g : Field} {j k p : ℕ} {more : Asked} → g.from ≡ suc f.to → On f.from g.to p → Among p ((f, j) ∷ (g, k) ∷ more)
+either {f} {g} {j} {k} {p} {more} e h = go (dec_le p f.to)
+  where
+    go : Dec (p ≤ f.to) → Among p ((f, j) ∷ (g, k) ∷ more)
+    go (yes m) = this (h.0, m)
+    go (no m) = let k : In g p = omega arith in later (this k)
+
+pub not_asked : {p : ℕ} {fs : Asked} (l l' : List ℕ) → Differ p (record_in l) (record_in l') → Among p fs → AllRead fs (record_in l) → AllRead fs (record_in l') → ⊥
 unfolding AllRead
-not_asked {f} l l' d this k k' = apart d (reads_same _ _ (same_long d f) k.0 k'.0)
+not_asked l l' d (this {a} h) k k' = apart d a.0 (reads_same _ _ (same_long d a.0) k.0 k'.0) h
 not_asked l l' d (later w) k k' = not_asked l l' d w k.1 k'.1
 
 -- ---- the rules of one field
@@ -71,15 +79,16 @@ fixed_same zeros n bs cs rec rec' e h h' = content_same (run (digit_byte 0)) bs 
 fixed_same (exact {bs = x}) n bs cs rec rec' e h h' = content_same (text x) bs cs e h.0 h'.0
 fixed_same optional n bs cs rec rec' e h h' = content_same (run blank) bs cs e h.0 h'.0
 
-module _ {r : Record} {dir : Direction} {l l' : List ℕ} (a : RightLine r dir l) (a' : RightLine r dir l') where
-  pub not_fixed : {f : Field} → DifferIn f (record_in l) (record_in l') → Memᴰ f (fields_of r) → Fixed dir f.kind → ⊥
-  not_fixed {f} d m k = apart d (fixed_same k f.from _ _ _ _ (same_long d f) (right_of a m) (right_of a' m))
+module _ {p : ℕ} {r : Record} {dir : Direction} {l l' : List ℕ}
+    (d : Differ p (record_in l) (record_in l')) (a : RightLine r dir l) (a' : RightLine r dir l') where
+  pub not_fixed : {f : Field} → Memᴰ f (fields_of r) → Fixed dir f.kind → In f p → ⊥
+  not_fixed {f} m k = apart d f (fixed_same k f.from _ _ _ _ (same_long d f) (right_of a m) (right_of a' m))
 
-  pub not_letter : DifferIn (segment_field (letter_of r)) (record_in l) (record_in l') → type_of r ≡ digit_byte 3 → ⊥
-  not_letter d e =
+  pub not_letter : type_of r ≡ digit_byte 3 → p ≡ segment_place → ⊥
+  not_letter e h =
       let m = (detail_of r e).marked in
       let same = letter_at r dir (record_in l) a.fields e m ∙ sym (letter_at r dir (record_in l') a'.fields e m) in
-      somewhere d (λ q h i. let at : segment_place ≡ q = omega arith in subst (λ (q : ℕ). place q (record_in l) ≡ place q (record_in l')) at same)
+      d.here (subst (λ (q : ℕ). place q (record_in l) ≡ place q (record_in l')) (sym h) same)
 
 -- ---- where a detail has its letter no field is fixed
 
@@ -120,38 +129,3 @@ all_loose r e =
 
 pub letter_loose : (r : Record) {f : Field} {dir : Direction} → type_of r ≡ digit_byte 3 → Memᴰ f (fields_of r) → In f segment_place → Fixed dir f.kind → ⊥
 letter_loose r {f} {dir} e m = (of_member Loose m (all_loose r (detail_line r e))).loose dir
-
--- ---- the type has its place for itself
-
-record Aside (f : Field) : Type 0 where
-  aside : In f type_place → (f.from ≡ type_place) × (f.to ≡ type_place)
-
--- a field ends before the type, or begins behind it, or is its own
-abbrev beside_type : Field → Bool
-beside_type f = ltb f.to type_place || (ltb type_place f.from || (eqb f.from type_place && eqb f.to type_place))
-
-abbrev besides : List Field → Bool
-besides [] = true
-besides (f ∷ fs) = beside_type f && besides fs
-
-all_beside : (r : Record) → T (besides (fields_of r))
-unfolding fields_of
-all_beside r = each (λ r. besides (fields_of r)) tt r
-
-beside : (f : Field) → T (beside_type f) → Aside f
-beside f t = record { aside = λ i. go i (dec_lt f.to type_place) (dec_lt type_place f.from) t }
-  where
-    go : In f type_place → Dec (f.to < type_place) → Dec (type_place < f.from) → T (beside_type f) → (f.from ≡ type_place) × (f.to ≡ type_place)
-    go i (yes h) k t = absurd (omega arith)
-    go i (no h) (yes k) t = absurd (omega arith)
-    go i (no h) (no k) t =
-        let b = both (eqb f.from type_place) (eqb f.to type_place) (rw (le-ltb f.to type_place (omega arith), le-ltb type_place f.from (omega arith)) at t) in
-        (eqb→eq f.from type_place b.0, eqb→eq f.to type_place b.1)
-
-all_aside : (fs : List Field) → T (besides fs) → All Aside fs
-unfolding All
-all_aside [] t = tt
-all_aside (f ∷ fs) t = let b = both (beside_type f) (besides fs) t in (beside f b.0, all_aside fs b.1)
-
-pub type_aside : (r : Record) {f : Field} → Memᴰ f (fields_of r) → In f type_place → (f.from ≡ type_place) × (f.to ≡ type_place)
-type_aside r m = (of_member Aside m (all_aside (fields_of r) (all_beside r))).aside

@@ -17,7 +17,7 @@ use Rattle.promises.specs.Grammar.{RightBatch, Batches, no_batches, batch, Meets
 use Rattle.promises.specs.Guarded.{GuardedIn, changed}
 use Rattle.promises.specs.WrongOnes.{FirstBatch, FirstBatchOnly}
 use Rattle.promises.proofs.laws.Accepted.{lines_back, accepted_exactly}
-use Rattle.promises.proofs.laws.LinesAt.{joined_earlier}
+use Rattle.promises.proofs.laws.Change.{joined_earlier}
 use Rattle.promises.proofs.laws.EveryLine.{file_long, every_line_guarded}
 
 -- the first of two batches or more, and the line behind it

@@ -15,13 +15,12 @@ use Rattle.files.specs.declared.whole.Outcome.{Outcome}
 use Rattle.files.specs.declared.whole.Outcome.TheVariants.{Accepted, Refused}
 use Rattle.files.proofs.laws.Apart.{accepted_refused}
 use Rattle.promises.specs.Grammar.{Meets}
-use Rattle.promises.specs.Guarded.{credit, bank, in_field, line_at, GuardedIn, GuardedPairIn, changed, swapped_at}
-use Rattle.promises.specs.Demands.{Demand2, Demand3, SwapDemand3}
+use Rattle.promises.specs.Guarded.{first_eight, line_at, GuardedIn, changed}
+use Rattle.promises.specs.Demands.{Demand2, Demand3}
 use Rattle.promises.specs.WrongOnes.{FirstBatchOnly}
 use Rattle.promises.proofs.laws.Accepted.{accepted_exactly}
 use Rattle.promises.proofs.laws.AcceptedFiles.{credit_file, credit-file, return_file, return-file, withdrawn_file, withdrawn-file}
-use Rattle.promises.proofs.laws.Change.{change_refused, swap_refused}
-use Rattle.promises.proofs.laws.SwapFiles.{every_amount}
+use Rattle.promises.proofs.laws.Change.{change_refused}
 use Rattle.promises.proofs.laws.SecondBatch.{behind_first, guarded_there, unseen}
 
 -- it meets demand 2: then its acceptances are the checker's
@@ -40,20 +39,6 @@ invented check h file t u m e ne = ne (let z = sym e ∙ (h file t).1 m in cc)
 pub never_withdrawn : (check : List ℕ → Outcome) → ((file : List ℕ) (t : Totals) → check file ≡ Accepted t → withdrawn_payments t ≡ 0) → Demand2 check → ⊥
 never_withdrawn check none h = let z = none withdrawn_file _ ((h withdrawn_file _).1 ((accepted_exactly withdrawn_file _).0 withdrawn-file)) in absurd (omega arith)
 
--- one that meets demand 2 refuses what the checker refuses; so it meets demand 3, of bytes and of swaps
-same_refused : {check : List ℕ → Outcome} → Demand2 check → (file : List ℕ) → (r : Refusal) × (check_file file ≡ Refused r) → (r : Refusal) × (check file ≡ Refused r)
-same_refused {check} h file x = go (check file) refl
-  where
-    go : (o : Outcome) → check file ≡ o → (r : Refusal) × (check file ≡ Refused r)
-    go (Accepted t) q = absurd (accepted_refused (sym (same_accepted h file t q) ∙ x.1))
-    go (Refused r) q = (r, q)
-
-pub demand_3 : (check : List ℕ → Outcome) → Demand2 check → Demand3 check
-demand_3 check h file t n p b e g ne = same_refused h (changed file n p b) (change_refused file t n p b (same_accepted h file t e) g ne)
-
-pub swap_demand_3 : (check : List ℕ → Outcome) → Demand2 check → SwapDemand3 check
-swap_demand_3 check h file t n p e g ne = same_refused h (swapped_at file n p) (swap_refused file t n p (same_accepted h file t e) g ne)
-
 -- one that gives a file the same answer with another byte at a guarded place: that of another batch than the first, for one that looks at the first only
 pub overlooks_3 : (check : List ℕ → Outcome) → Demand3 check → (file : List ℕ) (t : Totals) (n p b : ℕ) → check file ≡ Accepted t → GuardedIn file n p
     → b ≢ place p (line_at n file) → check (changed file n p b) ≡ check file → ⊥
@@ -61,19 +46,8 @@ overlooks_3 check h file t n p b e g ne same = accepted_refused (sym e ∙ (sym 
 
 pub overlooks_2 : (check : List ℕ → Outcome) → Demand2 check → (file : List ℕ) (t : Totals) (n p b : ℕ) → check file ≡ Accepted t → GuardedIn file n p
     → b ≢ place p (line_at n file) → check (changed file n p b) ≡ check file → ⊥
-overlooks_2 check h = overlooks_3 check (demand_3 check h)
-
--- one that gives every file the same answer with two neighbours swapped, as one that adds up the digits of an amount: by an accepted file with unequal
--- neighbours in its amount
-pub orderless_3 : (check : List ℕ → Outcome) → ((file : List ℕ) (n p : ℕ) → check (swapped_at file n p) ≡ check file) → SwapDemand3 check
-    → (file : List ℕ) (t : Totals) (n p : ℕ) → check file ≡ Accepted t → GuardedPairIn file n p → place p (line_at n file) ≢ place (suc p) (line_at n file) → ⊥
-orderless_3 check same h file t n p e g ne = accepted_refused (sym e ∙ (sym (same file n p) ∙ (h file t n p e g ne).1))
-
-pub orderless_2 : (check : List ℕ → Outcome) → ((file : List ℕ) (n p : ℕ) → check (swapped_at file n p) ≡ check file) → Demand2 check → ⊥
-orderless_2 check same h =
-    let w = every_amount credit in
-    let e = (h w.file w.in_it).1 ((accepted_exactly w.file w.in_it).0 w.accepted) in
-    orderless_3 check same (swap_demand_3 check h) w.file w.in_it w.before w.at e w.there w.unlike
+overlooks_2 check h file t n p b e g ne same =
+    accepted_refused (sym (same_accepted h (changed file n p b) t (same ∙ e)) ∙ (change_refused file t n p b (same_accepted h file t e) g ne).1)
 
 -- one that looks at the first batch only, and accepts a file of two or more: a byte of the second is changed
 pub first_batch_only_3 : (check : List ℕ → Outcome) → FirstBatchOnly check → Demand3 check → (file : List ℕ) (t u : Totals) → Meets file t → 2 ≤ t.batches
@@ -107,7 +81,7 @@ zeros = run (digit_byte 0) line_bytes
 
 zeros_guarded : GuardedIn zeros 0 1
 unfolding left
-zeros_guarded = record { which = FileHeader; read = refl; inside = lit≤ tt; so = in_field bank (lit≤ tt, lit≤ tt) }
+zeros_guarded = record { which = FileHeader; read = refl; inside = lit≤ tt; guarded = first_eight (lit≤ tt, lit≤ tt) }
 
 pub one_acceptance_3 : (check : List ℕ → Outcome) (t : Totals) → ((file : List ℕ) → check file ≡ Accepted t) → Demand3 check → ⊥
 one_acceptance_3 check t all h =

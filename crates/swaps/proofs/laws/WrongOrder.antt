@@ -10,10 +10,11 @@ use Rattle.checker.specs.Machine.{direction_of}
 use Rattle.files.specs.File.{lines_of, check_file}
 use Rattle.checker.specs.declared.totals.Totals.{Totals}
 use Rattle.files.specs.declared.whole.Outcome.TheVariants.{Accepted, Refused}
-use Rattle.promises.specs.Guarded.{On, GuardedPair, line_at, state_at, ReadAt, swapped_at}
-use Rattle.promises.proofs.laws.Listed.{PairsListed, pairs_listed}
-use Rattle.promises.proofs.laws.Change.{swap_refused}
-use Rattle.promises.proofs.laws.EveryLine.{file_long}
+use Rattle.promises.specs.Guarded.{On, line_at, state_at, ReadAt}
+use Rattle.swaps.specs.Guarded.{GuardedPair, swapped_at}
+use Rattle.swaps.proofs.laws.Listed.{PairsListed, pairs_listed}
+use Rattle.swaps.proofs.laws.Change.{swap_refused}
+use Rattle.swaps.proofs.laws.EveryLine.{file_long}
 
 module _ (file : List ℕ) (t : Totals) (n p : ℕ) (e : check_file file ≡ Accepted t) (h : n < length (lines_of file))
     (unequal : place p (line_at n file) ≢ place (suc p) (line_at n file)) where

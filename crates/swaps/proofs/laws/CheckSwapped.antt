@@ -24,11 +24,12 @@ use Rattle.files.specs.File.{check_file}
 use Rattle.checker.specs.declared.totals.Totals.{Totals}
 use Rattle.files.specs.declared.whole.Outcome.TheVariants.{Accepted, Refused}
 use Rattle.promises.specs.Grammar.{RightLine}
-use Rattle.promises.specs.Guarded.{no_barcode, line_at, ReadAt, swapped_at, DifferIn, in_line}
-use Rattle.promises.proofs.laws.Differ.{value_same, kept}
-use Rattle.promises.proofs.laws.SameBoleto.{barcode_accepted}
-use Rattle.promises.proofs.laws.LinesAt.{earlier, part_there}
-use Rattle.promises.proofs.laws.Change.{barcode_at, byte_of, swapped_barcode, refused_by, right-line, swap_differs}
+use Rattle.promises.specs.Guarded.{line_at, ReadAt}
+use Rattle.swaps.specs.Guarded.{no_barcode, swapped_at, DifferIn, in_line}
+use Rattle.swaps.proofs.laws.Differ.{value_same, kept}
+use Rattle.swaps.proofs.laws.SameBoleto.{barcode_accepted}
+use Rattle.swaps.proofs.laws.LinesAt.{earlier, part_there}
+use Rattle.swaps.proofs.laws.Change.{barcode_at, byte_of, swapped_barcode, refused_by, right-line, swap_differs}
 
 -- ---- four digits of a due factor
 

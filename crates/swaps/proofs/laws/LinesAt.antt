@@ -12,8 +12,9 @@ use Rattle.layout.specs.Table.{record_bytes}
 use Rattle.checker.specs.Line.{line_bytes, record_in}
 use Rattle.files.specs.File.{lines_of}
 use Rattle.files.proofs.laws.Runs.{no_lines, next_line, lines_append, lines_joined}
-use Rattle.promises.specs.Guarded.{In, line_at, DifferIn, in_line}
-use Rattle.promises.proofs.laws.Differ.{slice_same, rest_same}
+use Rattle.promises.specs.Guarded.{In, line_at}
+use Rattle.swaps.specs.Guarded.{DifferIn, in_line}
+use Rattle.swaps.proofs.laws.Differ.{slice_same, rest_same}
 
 -- whole lines are as many
 lines_count : (k : ℕ) (a : List ℕ) → length a ≡ k * line_bytes → length (lines_of a) ≡ k

@@ -24,16 +24,17 @@ use Rattle.checker.specs.declared.Checker.{Checker}
 use Rattle.files.specs.declared.whole.Outcome.{Outcome}
 use Rattle.files.specs.declared.whole.Outcome.TheVariants.{Accepted, Refused}
 use Rattle.promises.specs.Grammar.{RightLine}
-use Rattle.promises.specs.Guarded.{In, LetterGuarded, AmountIn, credit, nominal, discount, fine, boleto, collection, CountIn, batch-records, batch-sum, file-batches, file-records, GuardedField, line-end, bank, batch-number, line_type, detail_number, letter, fixed, amount, count, Seen, guarded, no_barcode, line_at, ReadAt, DifferIn, OtherIn}
+use Rattle.promises.specs.Guarded.{In, LetterGuarded, line_at, ReadAt}
+use Rattle.swaps.specs.Guarded.{AmountIn, credit, nominal, discount, fine, boleto, collection, CountIn, batch-records, batch-sum, file-batches, file-records, GuardedField, line-end, bank, batch-number, line_type, detail_number, letter, fixed, amount, count, Seen, guarded, no_barcode, DifferIn, OtherIn}
 use Rattle.promises.proofs.laws.Facts.{either_direction}
-use Rattle.promises.proofs.laws.Differ.{somewhere, slice_same}
+use Rattle.swaps.proofs.laws.Differ.{somewhere, slice_same}
 use Rattle.promises.proofs.laws.Records.{BankFirst, bank_first}
-use Rattle.promises.proofs.laws.SameLine.{Among, this, later, not_asked, listed_inside, not_fixed, not_letter, letter_loose, type_aside}
-use Rattle.promises.proofs.laws.SameBoleto.{not_amount}
+use Rattle.swaps.proofs.laws.SameLine.{Among, this, later, not_asked, listed_inside, not_fixed, not_letter, letter_loose, type_aside}
+use Rattle.swaps.proofs.laws.SameBoleto.{not_amount}
 use Rattle.promises.proofs.laws.Behind.{Ends, Goes, goes, behind, by_first}
-use Rattle.promises.proofs.laws.NextLine.{not_bank, not_credit, not_collection}
-use Rattle.promises.proofs.laws.OtherRecord.{one_record}
-use Rattle.promises.proofs.laws.LinesAt.{earlier, rest, split, take_earlier, first_record, split_other, line_differs}
+use Rattle.swaps.proofs.laws.NextLine.{not_bank, not_credit, not_collection}
+use Rattle.swaps.proofs.laws.OtherRecord.{one_record}
+use Rattle.swaps.proofs.laws.LinesAt.{earlier, rest, split, take_earlier, first_record, split_other, line_differs}
 
 -- read as the record that r is
 goes_as : {r r' : Record} {s : Checker} {ls : List (List ℕ)} (l : List ℕ) → r ≡ r' → Goes r s l ls → Goes r' s l ls

@@ -25,7 +25,8 @@ use Rattle.checker.specs.Calls.{left}
 use Rattle.files.specs.File.{cut, steps, end_of, finish, check_file}
 use Rattle.checker.specs.declared.totals.Totals.{Totals}
 use Rattle.files.specs.declared.whole.Outcome.TheVariants.{Accepted}
-use Rattle.promises.specs.Guarded.{In, place_of, AmountIn, credit, nominal, discount, fine, boleto, collection, amount, both_in_field, both_in_barcode, line_at, ReadAt, GuardedPairIn, swapped_at}
+use Rattle.promises.specs.Guarded.{In, place_of, line_at, ReadAt}
+use Rattle.swaps.specs.Guarded.{AmountIn, credit, nominal, discount, fine, boleto, collection, amount, both_in_field, both_in_barcode, GuardedPairIn, swapped_at}
 use Rattle.promises.proofs.laws.AcceptedFiles.{is_accepted, credit_file, credit-file}
 use Rattle.promises.proofs.laws.CollectionFiles.{collection_file, collection-file}
 use Rattle.promises.proofs.laws.Trials.{is_refused}
