@@ -1,15 +1,17 @@
 """The edits of the crates, each refused at the function or law that it names. See tests/edits.test."""
 import argparse
 import os
+import shutil
 import sys
+import tempfile
 import time
 from concurrent.futures import ThreadPoolExecutor
 from pathlib import Path
 
-from desk import prove_cited
+from desk import Desk
 from edit import BadEdit, read
 from self_check import CRATE, spoilt_edits
-from trial import Trials
+from trial import Outcome, try_edit
 
 CRATES = Path("crates")
 REFUSED = ("must-fail", "must-fail-at")  # the folders of edits that the prover must refuse
@@ -66,38 +68,43 @@ def apply_only(files):
 
 
 def try_all(edits, spoilt, say_of):
-    """Tries the edits and the spoilt ones, and says of each what came of it; whether there is a fault."""
+    """Tries the edits and the spoilt ones, crate by crate, and says of each what came of it; whether there is a fault."""
     began = time.monotonic()
     crates = longest_first({edit.crate for edit in edits})
-    cited = prove_cited(crates)
-    if cited.status != 0:
-        sys.exit(f"what the crates cite is not proved\n{cited.trouble()}")
-    pool = ThreadPoolExecutor(jobs())
-    trials = Trials(pool, crates)
-    try:
-        found = [trials.start(one.edit) for one in spoilt]
-        tried = [trials.start(edit) for edit in edits]
-        bad = sum(told_crate(crate, trials.finished[crate].result()) for crate in crates)
-        bad += sum(told_spoilt(one, trial.result()) for one, trial in zip(spoilt, found))
-        bad += sum(told(edit, trial.result(), say_of) for edit, trial in zip(edits, tried))
-    finally:
-        pool.shutdown(cancel_futures=True)
-        trials.clear()
+    room = Path(tempfile.mkdtemp(prefix="edits-")).resolve()
+
+    def try_crate(crate):
+        own = [edit for edit in edits if edit.crate == crate]
+        return tried(room / crate, crate, own, spoilt if crate == CRATE else [], say_of)
+
+    with ThreadPoolExecutor(jobs()) as pool:
+        try:
+            bad = sum(pool.map(try_crate, crates))
+        finally:
+            pool.shutdown(cancel_futures=True)
+            shutil.rmtree(room)
     print(f"{len(edits)} edits of {len(crates)} crates, {bad} at fault ({time.monotonic() - began:.0f} s)")
     return bad > 0
 
 
-def told_crate(crate, check):
+def tried(root, crate, edits, spoilt, say_of):
+    """Tries the edits of a crate on a desk of its own; how many faults there are."""
+    desk = Desk(root, crate)
+    check = desk.finish()
     proved = check.proved()
-    say(f"{crate}, unedited: {'proved' if proved else 'NOT PROVED'}", check.seconds)
+    say(f"{crate}, unedited: {'proved' if proved else 'NOT PROVED'}", check)
     if not proved:
         print(check.trouble())
-    return not proved
+    untried = Outcome(0, fault="NOT TRIED: its crate, unedited, is not proved")
+    bad = sum(told_spoilt(one, try_edit(desk, one.edit) if proved else untried) for one in spoilt)
+    bad += sum(told(edit, try_edit(desk, edit) if proved else untried, say_of) for edit in edits)
+    shutil.rmtree(root)
+    return bad + (not proved)
 
 
 def told(edit, outcome, say_of):
     fault, well = say_of(edit, outcome)
-    say(f"{edit.crate}, {edit.name}: {fault or well}", outcome.seconds)
+    say(f"{edit.crate}, {edit.name}: {fault or well}", outcome)
     return fault != ""
 
 
@@ -113,14 +120,14 @@ def told_spoilt(one, outcome):
     """Of a spoilt edit: the fault is that none is found."""
     fault = outcome.fault_of(one.edit)
     seen = fault.startswith(one.fault)
-    say(f"{one.edit.name}: {'seen' if seen else 'NOT SEEN'}: {fault or 'refused where it says'}", outcome.seconds)
+    say(f"{one.edit.name}: {'seen' if seen else 'NOT SEEN'}: {fault or 'refused where it says'}", outcome)
     return not seen
 
 
-def say(words, seconds):
+def say(words, took):
     """The seconds stand at the end of the first line; what the check said may follow."""
     first, *more = words.split("\n")
-    print(f"{first} ({seconds:.0f} s)", *more, sep="\n    ", flush=True)
+    print("\n    ".join([f"{first} ({took.seconds:.0f} s)", *more]), flush=True)
 
 
 def longest_first(crates):
@@ -129,8 +136,8 @@ def longest_first(crates):
 
 
 def jobs():
-    """As many checks at a time as rt runs."""
-    return int(os.environ.get("RT_JOBS") or min(len(os.sched_getaffinity(0)), 4))
+    """Crates that are tried at a time, each with one job."""
+    return min(len(os.sched_getaffinity(0)), 2)
 
 
 sys.exit(main())

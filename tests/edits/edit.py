@@ -39,9 +39,9 @@ class Edit:
 
 
 def text_of(crate_folder, file):
-    # an edit of a proof would show nothing: any proof can be spoiled
-    if not re.match(r"(src|specs)/", file) or ".." in file.split("/"):
-        raise BadEdit(f"{file} is not below src/ or specs/")
+    # an edit of a proof would show nothing, since any proof can be spoiled; the statement of a law is none
+    if not re.match(r"(src|specs|proofs/laws)/", file) or ".." in file.split("/"):
+        raise BadEdit(f"{file} is not below src/, specs/ or proofs/laws/")
     path = crate_folder / file
     if not path.is_file():
         raise BadEdit(f"{file} is not there")

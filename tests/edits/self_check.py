@@ -22,6 +22,7 @@ def spoilt_edits(crates, edits):
         Spoilt(replace(good, name="another function named", fails="answer::another"), "REFUSED ELSEWHERE"),
         Spoilt(behind(folder, "code that does not parse", CODE, "fn {\n"), "NO VERDICT"),
         Spoilt(behind(folder, "a statement that does not parse", STATEMENTS, "pub = =\n"), "NOT FOR A PROOF"),
+        Spoilt(Edit(CRATE, "the same, under another name", (Replacement(CODE, "if kept {", "if kept == true {"),), ""), "FOR A NAME ONLY"),
         Spoilt(behind(folder, "a name that is nowhere", STATEMENTS, "pub one : nowhere\none = 1\n"), "NOT FOR A PROOF"),
     ]
 
