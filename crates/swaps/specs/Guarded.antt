@@ -1,24 +1,18 @@
 -- What is guarded: other bytes there, and an accepted file is refused. First fields: any other content is seen. Then places: another byte is seen. Then
 -- neighbours: two unequal ones, swapped, are seen. Assumes nothing.
-use Rattle.std.specs.Prelude.{◌≡◌, ◌≢◌, ℕ, suc, ◌+◌, ◌*◌, ◌-◌, ◌≤◌, ◌<◌, length, get_or, take, drop, set}
-use mathlib.Core.List.{List, [], ◌∷◌, Memᴰ}
+use Rattle.std.specs.Prelude.{◌≡◌, ◌≢◌, ℕ, suc, ◌+◌, ◌*◌, ◌≤◌, length}
+use mathlib.Core.List.{List, [], ◌∷◌}
 use Rattle.digits.specs.Digits.{digit_byte, place, swapped}
 use Rattle.boleto.specs.Guarded.{GuardedInBarcode, GuardedPairInBarcode}
-use Rattle.layout.specs.Field.{Kind, K, O, Zeros, Exact, Field, field, part}
-use Rattle.layout.specs.Table.{fields_of, record_bytes, bank_field, batch_field, type_field, number_field, segment_field, barcode_field, nominal_field, discount_field, fine_field, batch_records, batch_sum, file_batches, file_records}
+use Rattle.layout.specs.Field.{Exact, Field, field, part}
+use Rattle.layout.specs.Table.{record_bytes, bank_field, batch_field, type_field, number_field, segment_field, barcode_field, nominal_field, discount_field, fine_field, batch_records, batch_sum, file_batches, file_records}
 use Rattle.layout.specs.Records.{type_of, letter_of, credit_amount, boleto_amount, collection_amount}
 use Rattle.layout.specs.declared.Direction.{Direction}
-use Rattle.layout.specs.declared.Direction.TheVariants.{Remittance}
 use Rattle.layout.specs.declared.Record.{Record}
-use Rattle.layout.specs.declared.Record.TheVariants.{FileHeader, SegmentA, SegmentJ, BatchTrailer, FileTrailer, SegmentO}
+use Rattle.layout.specs.declared.Record.TheVariants.{SegmentA, SegmentJ, BatchTrailer, FileTrailer, SegmentO}
 use Rattle.layout.specs.declared.pairs.Batch.{Batch}
-use Rattle.layout.specs.declared.pairs.Batch.TheVariants.{Credit, Boleto}
-use Rattle.checker.specs.Line.{line_bytes, carriage_return, line_feed, record_in, line_is}
-use Rattle.checker.specs.Machine.{start, direction_of}
-use Rattle.files.specs.File.{lines_of}
-use Rattle.checker.specs.Calls.{left}
-use Rattle.checker.specs.declared.order.Reading.TheVariants.{Line}
-use Rattle.checker.specs.declared.Checker.{Checker}
+use Rattle.checker.specs.Line.{line_bytes, carriage_return, line_feed, record_in}
+use Rattle.checker.specs.Machine.{direction_of}
 use Rattle.promises.specs.Grammar.{RightLine}
 use Rattle.promises.specs.Guarded.{In, place_of, FieldOf, Fixed, LetterGuarded, line_at, state_at, ReadAt}
 

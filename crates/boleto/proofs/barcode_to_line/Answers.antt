@@ -1,5 +1,4 @@
 -- `boleto::barcode_to_line` meets its contract. Assumes nothing.
-use borrow.Author.Rules.{rules}
 use Rattle.answer.proofs.laws.Frame.{Answers, answers, keeps, input_kept, has_room, writes}
 use Rattle.boleto.specs.Strings.{line_digits}
 use Rattle.boleto.specs.Rules.{barcode_rules}

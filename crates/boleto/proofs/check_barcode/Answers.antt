@@ -1,6 +1,5 @@
 -- `boleto::check_barcode` meets its contract. Assumes nothing.
 use mathlib.Core.Path.{sym}
-use borrow.Author.Rules.{rules}
 use Rattle.answer.proofs.laws.Order.{first_append}
 use Rattle.boleto.specs.Rules.{barcode_rules}
 use Rattle.boleto.proofs.check_barcode.Goals as goal

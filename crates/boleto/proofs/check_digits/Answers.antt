@@ -1,6 +1,5 @@
 -- `boleto::check_digits` meets its contract. Assumes nothing.
 use mathlib.Core.Path.{refl}
-use borrow.Author.Rules.{rules}
 use Rattle.answer.proofs.laws.Order.{one_then}
 use Rattle.boleto.specs.Rules.{check_rules}
 use Rattle.boleto.proofs.check_digits.Goals as goal

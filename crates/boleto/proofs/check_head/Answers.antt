@@ -1,5 +1,4 @@
 -- `boleto::check_head` meets its contract. Assumes nothing.
-use borrow.Author.Rules.{rules}
 use Rattle.answer.proofs.laws.Order.{joined}
 use Rattle.boleto.specs.Rules.{head_rules}
 use Rattle.boleto.proofs.check_head.Goals as goal

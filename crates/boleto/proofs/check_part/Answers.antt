@@ -1,5 +1,4 @@
 -- `boleto::check_part` meets its contract. Assumes nothing.
-use borrow.Author.Rules.{rules}
 use Rattle.boleto.proofs.check_part.Goals as goal
 
 pub returns : goal.returns

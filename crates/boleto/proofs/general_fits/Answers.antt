@@ -1,7 +1,6 @@
 -- `boleto::general_fits` meets its contract. Assumes nothing.
 use mathlib.Core.Path.{ap, ◌∙◌}
 use mathlib.Core.List.{append-nil}
-use borrow.Author.Rules.{rules}
 use Rattle.boleto.specs.Strings.{barcode_of}
 use Rattle.boleto.specs.Rules.{general_fits}
 use Rattle.boleto.proofs.general_fits.Goals as goal

@@ -1,5 +1,4 @@
 -- `boleto::line_to_barcode` meets its contract. Assumes nothing.
-use borrow.Author.Rules.{rules}
 use Rattle.answer.proofs.laws.Frame.{Answers, answers, keeps, input_kept, has_room, writes}
 use Rattle.boleto.specs.Strings.{barcode_digits}
 use Rattle.boleto.specs.Rules.{digit_line_rules}

@@ -1,8 +1,7 @@
 -- What is asked of a line by its record, beside its own fields: numbers that the state counts, and a limit; and what all details share. Assumes nothing.
-use Rattle.std.specs.Prelude.{◌≡◌, refl, Bool, true, false, not, cond, ◌&&◌, ◌||◌, ◌↔◌, List, [], ◌∷◌, ◌++◌, ℕ, suc, ◌+◌, ◌≤◌, ◌<◌, T, leb}
+use Rattle.std.specs.Prelude.{◌≡◌, refl, Bool, true, false, not, cond, ◌&&◌, ◌||◌, ◌↔◌, List, [], ◌∷◌, ◌++◌, ℕ, suc, ◌+◌, T, leb}
 use Rattle.std.proofs.Common.{ap, ◌∙◌}
 use Rattle.std.proofs.Math.Path.{subst⁻¹}
-use Rattle.answer.specs.Limits.{file_cents}
 use Rattle.answer.proofs.laws.Order.{never}
 use Rattle.digits.specs.Digits.{digit_byte}
 use Rattle.digits.specs.Numbers.{number_of}
@@ -14,8 +13,8 @@ use Rattle.layout.specs.Table.{line, detail, own, type_place, fields_of, record_
 use Rattle.layout.specs.declared.Record.{Record}
 use Rattle.layout.specs.declared.shapes.LineType.{LineType}
 use Rattle.layout.specs.declared.shapes.LineType.TheVariants.{FileFirst, BatchFirst, Detail, BatchLast, FileLast}
-use Rattle.checker.specs.Totals.{batch_count, record_count, payment_count, cent_sum, batches_of, payments_of}
-use Rattle.checker.specs.Line.{ordinal, most_batches, most_payments, header_batch, trailer_batch, within, behind}
+use Rattle.checker.specs.Totals.{batch_count, record_count, cent_sum, batches_of}
+use Rattle.checker.specs.Line.{ordinal, header_batch, trailer_batch, within, behind}
 use Rattle.checker.specs.Machine.{in_batch, next_of_type, next}
 use Rattle.layout.specs.declared.shapes.Phase.{Phase}
 use Rattle.layout.specs.declared.shapes.Phase.TheVariants.{Start, Headed, Opened, Within, Paid, BehindZ, Closed, Ended}

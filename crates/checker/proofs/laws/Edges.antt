@@ -11,7 +11,7 @@ use Rattle.layout.proofs.laws.Bytes.{and_right}
 use Rattle.layout.specs.declared.Direction.{Direction}
 use Rattle.layout.specs.declared.Direction.TheVariants.{Remittance, Return}
 use Rattle.layout.specs.declared.Record.{Record}
-use Rattle.layout.specs.declared.Record.TheVariants.{FileHeader, BatchHeader, SegmentZ, BatchTrailer, FileTrailer}
+use Rattle.layout.specs.declared.Record.TheVariants.{SegmentZ, BatchTrailer}
 use Rattle.layout.specs.declared.pairs.Batch.{Batch}
 use Rattle.checker.specs.Order.{payment, record_at, follows, ended, optional, suits, read_as}
 use Rattle.checker.specs.Line.{line_is, found}

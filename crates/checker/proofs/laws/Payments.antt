@@ -8,7 +8,7 @@ use Rattle.layout.specs.Table.{segment_field, segment_fields}
 use Rattle.layout.specs.declared.Record.{Record}
 use Rattle.layout.specs.declared.pairs.Batch.{Batch}
 use Rattle.layout.specs.declared.pairs.Batch.TheVariants.{Credit, Boleto, Unknown, Collection}
-use Rattle.checker.specs.Order.{payment, record_at, optional}
+use Rattle.checker.specs.Order.{payment, optional}
 use Rattle.layout.specs.Records.{after}
 use Rattle.checker.specs.Totals.{payments_of}
 use Rattle.checker.specs.Machine.{most_details}

@@ -1,5 +1,5 @@
 -- Which record a line may be, by phase, direction and kind of batch, and within which limit. Assumes nothing.
-use Rattle.std.specs.Prelude.{◌≡◌, List, [], ◌∷◌, ℕ, ◌+◌, ◌≤◌, ◌<◌}
+use Rattle.std.specs.Prelude.{◌≡◌, [], ◌∷◌, ℕ, ◌+◌, ◌≤◌, ◌<◌}
 use Rattle.answer.specs.Limits.{file_cents}
 use Rattle.layout.specs.Records.{shape_of}
 use Rattle.layout.specs.declared.Direction.{Direction}

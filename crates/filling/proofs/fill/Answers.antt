@@ -13,7 +13,6 @@ use mathlib.Core.Bool.{true, cond}
 use borrow.Author.Tests.{not-true, not-false}
 use Rattle.checker.specs.Machine.{sound}
 use Rattle.checker.proofs.laws.Bounds.{bounded}
-use borrow.Author.Rules.{rules}
 use Rattle.fields.specs.Values.{set_nth}
 use Rattle.fields.proofs.laws.Named.{by_name}
 use Rattle.checker.specs.Line.{header_batch}

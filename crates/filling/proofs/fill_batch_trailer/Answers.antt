@@ -3,7 +3,6 @@ use mathlib.Core.Path.{◌≡◌, ap, ◌∙◌}
 use Prim.Native.Nat.{◌+◌}
 use native.Mathlib.Omega.{arith}
 use Rattle.checker.specs.Totals.{record_count, cent_sum}
-use borrow.Author.Rules.{rules}
 use Rattle.answer.proofs.laws.Sums.{fits}
 use Rattle.checker.proofs.laws.Bounds.{cents-fit}
 use Rattle.layout.specs.Table.{fields_of}

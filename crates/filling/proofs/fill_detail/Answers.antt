@@ -1,7 +1,6 @@
 -- `filling::fill_detail` meets its contract. Assumes nothing.
 use mathlib.Core.Path.{refl, ◌∙◌}
 use Rattle.checker.specs.Totals.{record_count}
-use borrow.Author.Rules.{rules}
 use Rattle.fields.proofs.laws.Named.{by_name}
 use Rattle.filling.specs.Filling.{number_index, filled_in_batch}
 use Rattle.filling.proofs.fill_detail.Goals as goal

@@ -3,7 +3,6 @@ use mathlib.Core.Path.{◌≡◌, ap, ◌∙◌}
 use Prim.Native.Nat.{◌+◌}
 use native.Mathlib.Omega.{arith}
 use Rattle.checker.specs.Totals.{batch_count, record_count}
-use borrow.Author.Rules.{rules}
 use Rattle.answer.proofs.laws.Sums.{fits}
 use Rattle.layout.specs.Table.{fields_of}
 use Rattle.layout.specs.Names.{before, index_of}

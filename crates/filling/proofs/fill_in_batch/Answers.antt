@@ -1,5 +1,4 @@
 -- `filling::fill_in_batch` meets its contract. Assumes nothing.
-use borrow.Author.Rules.{rules}
 use native.Mathlib.Omega.{arith}
 use Rattle.filling.proofs.fill_in_batch.Goals as goal
 

@@ -1,6 +1,5 @@
 -- `filling::fill_line` meets its contract. Assumes nothing.
 use mathlib.Core.Path.{◌≡◌, refl, ◌∙◌}
-use borrow.Author.Rules.{rules}
 use Rattle.fields.specs.Values.{set_nth}
 use Rattle.fields.proofs.laws.Named.{by_name}
 use Rattle.filling.specs.Filling.{bank_index, batch_index}

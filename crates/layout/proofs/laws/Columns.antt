@@ -6,9 +6,9 @@ use mathlib.Core.List.{List, [], ◌∷◌, ◌++◌}
 use Rattle.std.proofs.Math.ListN.{get_or-map}
 use Rattle.std.proofs.Math.Seq.{slice, take-nil, take-length}
 use Rattle.digits.proofs.laws.Tests.{both}
-use Rattle.layout.specs.inner.Lent.{start_of, span_of, field_count, in_column, kind_of, Columns, may_be}
+use Rattle.layout.specs.inner.Lent.{start_of, span_of, field_count, in_column, kind_of, Columns}
 use Rattle.layout.specs.Field.{Kind, Field, field, none}
-use Rattle.layout.specs.Table.{fields_of, record_bytes, type_field, segment_fields, fields_of_each, all}
+use Rattle.layout.specs.Table.{fields_of, type_field, segment_fields, fields_of_each, all}
 use Rattle.layout.specs.Records.{records, code, shape_of, is_detail}
 use Rattle.layout.proofs.laws.Tiling.{Inside, insides, All, join, at}
 use Rattle.layout.proofs.laws.Sound.{Sound, sounds}

@@ -1,6 +1,6 @@
 -- The table's other rule: a test that antt computes at each field of each record. The field's width is one that its kind may have, a number's
 -- digits fit 64 bits, fixed content fills the field, a domain is of digits, and service and form stand at their own places. Assumes nothing.
-use Rattle.std.specs.Prelude.{Bool, true, ◌&&◌, List, [], ◌∷◌, ℕ, ◌-◌, ◌<◌, T, leb, eqb, length, get_or}
+use Rattle.std.specs.Prelude.{Bool, true, ◌&&◌, List, [], ◌∷◌, ℕ, ◌<◌, T, leb, eqb, length, get_or}
 use Rattle.digits.specs.Digits.{leading, all_digits}
 use Rattle.digits.specs.Numbers.{most_digits}
 use Rattle.digits.proofs.laws.Tests.{both}

@@ -4,7 +4,6 @@ use Rattle.std.proofs.Common.{sym, ap, ◌∙◌}
 use mathlib.Core.List.{List, [], ◌∷◌, ◌++◌, flatten}
 use Rattle.answer.specs.Rules.{refusal, first_broken}
 use Rattle.answer.proofs.laws.Order.{never_refused}
-use Rattle.answer.specs.declared.Answer.TheVariants.{Refused}
 use Rattle.layout.specs.Record.{clean}
 use Rattle.checker.specs.Line.{line_bytes, rules_of_line, line_rules}
 use Rattle.checker.specs.Machine.{start, sound, step_of}

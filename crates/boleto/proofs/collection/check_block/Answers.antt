@@ -1,5 +1,4 @@
 -- `boleto::collection::check_block` meets its contract. Assumes nothing.
-use borrow.Author.Rules.{rules}
 use Rattle.boleto.proofs.collection.check_block.Goals as goal
 
 pub returns : goal.returns

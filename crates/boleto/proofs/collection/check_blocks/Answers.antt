@@ -1,6 +1,5 @@
 -- `boleto::collection::check_blocks` meets its contract. Assumes nothing.
 use mathlib.Core.Path.{refl}
-use borrow.Author.Rules.{rules}
 use Rattle.answer.proofs.laws.Order.{one_then}
 use Rattle.boleto.specs.CollectionRules.{block_rules}
 use Rattle.boleto.proofs.collection.check_blocks.Goals as goal

@@ -1,6 +1,5 @@
 -- `boleto::collection::check_code` meets its contract. Assumes nothing.
 use mathlib.Core.Path.{sym}
-use borrow.Author.Rules.{rules}
 use Rattle.answer.proofs.laws.Order.{first_append}
 use Rattle.boleto.specs.CollectionRules.{code_rules}
 use Rattle.boleto.proofs.collection.check_code.Goals as goal

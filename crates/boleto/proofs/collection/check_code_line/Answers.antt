@@ -1,6 +1,5 @@
 -- `boleto::collection::check_code_line` meets its contract. Assumes nothing.
 use mathlib.Core.Path.{◌≡◌, sym, ◌∙◌}
-use borrow.Author.Rules.{rules}
 use Rattle.answer.specs.Rules.{first_broken}
 use Rattle.answer.proofs.laws.Order.{gone_on, stopped}
 use Rattle.answer.specs.declared.Answer.TheVariants.{Accepted}

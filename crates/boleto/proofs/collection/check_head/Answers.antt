@@ -1,5 +1,4 @@
 -- `boleto::collection::check_head` meets its contract. Assumes nothing.
-use borrow.Author.Rules.{rules}
 use Rattle.answer.proofs.laws.Order.{ahead, joined}
 use Rattle.boleto.specs.CollectionRules.{code_head_rules}
 use Rattle.boleto.proofs.collection.check_head.Goals as goal

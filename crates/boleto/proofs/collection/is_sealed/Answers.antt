@@ -1,5 +1,4 @@
 -- `boleto::collection::is_sealed` meets its contract. Assumes nothing.
-use borrow.Author.Rules.{rules}
 use Rattle.boleto.proofs.collection.is_sealed.Goals as goal
 
 pub returns : goal.returns

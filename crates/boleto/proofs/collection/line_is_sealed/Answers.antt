@@ -1,7 +1,6 @@
 -- `boleto::collection::line_is_sealed` meets its contract. Assumes nothing.
 use mathlib.Core.Path.{ap, ◌∙◌}
 use mathlib.Core.List.{append-nil}
-use borrow.Author.Rules.{rules}
 use Rattle.boleto.specs.Collection.{code_of}
 use Rattle.boleto.specs.CollectionRules.{code_sealed}
 use Rattle.boleto.proofs.collection.line_is_sealed.Goals as goal

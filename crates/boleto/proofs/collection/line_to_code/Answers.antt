@@ -1,5 +1,4 @@
 -- `boleto::collection::line_to_code` meets its contract. Assumes nothing.
-use borrow.Author.Rules.{rules}
 use Rattle.answer.proofs.laws.Frame.{Answers, answers, keeps, input_kept, has_room, writes}
 use Rattle.boleto.specs.Collection.{code_digits}
 use Rattle.boleto.specs.CollectionRules.{code_line_rules}

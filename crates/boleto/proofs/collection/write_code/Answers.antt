@@ -1,5 +1,4 @@
 -- `boleto::collection::write_code` meets its contract: what its four calls leave is the barcode. Assumes nothing.
-use borrow.Author.Rules.{rules}
 use Rattle.boleto.proofs.Steps.{code_laid}
 use Rattle.boleto.proofs.collection.write_code.Goals as goal
 

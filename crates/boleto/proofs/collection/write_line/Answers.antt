@@ -1,5 +1,4 @@
 -- `boleto::collection::write_line` meets its contract: what its four calls leave is the line. Assumes nothing.
-use borrow.Author.Rules.{rules}
 use Rattle.boleto.proofs.Steps.{code_line_laid}
 use Rattle.boleto.proofs.collection.write_line.Goals as goal
 

@@ -1,11 +1,10 @@
 -- `boleto::writing::put` meets its contract. The invariant: the bytes before i, from the first on, are copied. Assumes nothing.
 use mathlib.Core.Path.{◌≡◌}
-use Prim.Native.Nat.{suc, ◌+◌, ◌-◌, ◌≤◌}
+use Prim.Native.Nat.{suc, ◌+◌, ◌-◌}
 use native.Mathlib.Nat.{sub_self}
 use native.Mathlib.Omega.{arith}
-use borrow.Author.Rules.{rules}
-use lib.ListN.{length, drop, length-set, length-drop}
-use lib.Seq.{paste, paste-zero, paste-suc, get_or-drop}
+use lib.ListN.{drop, length-set, length-drop}
+use lib.Seq.{paste-zero, paste-suc, get_or-drop}
 use Rattle.boleto.proofs.writing.put.Goals as goal
 
 pub loop-i-init : goal.loop-i-init

@@ -1,5 +1,4 @@
 -- `boleto::writing::put_sealed` meets its contract. Assumes nothing.
-use borrow.Author.Rules.{rules}
 use Rattle.boleto.proofs.writing.put_sealed.Goals as goal
 
 pub returns : goal.returns

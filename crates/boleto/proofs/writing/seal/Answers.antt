@@ -1,5 +1,4 @@
 -- `boleto::writing::seal` meets its contract. Assumes nothing.
-use borrow.Author.Rules.{rules}
 use Rattle.boleto.proofs.writing.seal.Goals as goal
 
 pub returns : goal.returns

@@ -1,5 +1,4 @@
 -- `boleto::writing::write_barcode` meets its contract: what its five calls leave is the barcode. Assumes nothing.
-use borrow.Author.Rules.{rules}
 use Rattle.boleto.proofs.Steps.{barcode_laid}
 use Rattle.boleto.proofs.writing.write_barcode.Goals as goal
 

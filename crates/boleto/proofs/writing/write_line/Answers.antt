@@ -1,5 +1,4 @@
 -- `boleto::writing::write_line` meets its contract: what its five calls leave is the line. Assumes nothing.
-use borrow.Author.Rules.{rules}
 use Rattle.boleto.proofs.Steps.{line_laid}
 use Rattle.boleto.proofs.writing.write_line.Goals as goal
 

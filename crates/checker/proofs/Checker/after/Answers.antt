@@ -6,7 +6,6 @@ use Rattle.layout.specs.declared.shapes.LineType.{LineType}
 use Rattle.layout.specs.declared.shapes.Shape.{Shape}
 use Rattle.checker.specs.Machine.{next_of_type, next_by_row}
 use Rattle.checker.specs.declared.Checker.{Checker}
-use borrow.Author.Rules.{rules}
 use Rattle.checker.proofs.Checker.after.Goals as goal
 
 by_line : (x : Shape) (s : Checker) (rec : List ℕ) {t : LineType} {n : Checker} → x.line ≡ t → n ≡ next_of_type t x s rec → n ≡ next_by_row x s rec

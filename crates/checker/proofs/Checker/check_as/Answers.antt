@@ -4,7 +4,6 @@ use Rattle.answer.specs.Rules.{first_broken}
 use Rattle.answer.proofs.laws.Order.{gone_on, stopped}
 use Rattle.layout.specs.declared.shapes.Shape.{Shape}
 use Rattle.checker.specs.Line.{house_by, rules_of_type, rules_as}
-use borrow.Author.Rules.{rules}
 use Rattle.checker.proofs.Checker.check_as.Goals as goal
 
 pub returns-in-Accepted : goal.returns-in-Accepted

@@ -2,7 +2,6 @@
 use Rattle.answer.proofs.laws.Order.{ahead}
 use Rattle.checker.specs.Line.{rules_of_type}
 use Rattle.checker.proofs.Fields.{batch-header}
-use borrow.Author.Rules.{rules}
 use Rattle.checker.proofs.Checker.check_batch_header.Goals as goal
 
 pub returns : goal.returns

@@ -9,7 +9,6 @@ use Rattle.checker.proofs.laws.Bounds.{cents-fit, closed_cents_fit}
 use Rattle.checker.proofs.Fields.{to_batch_records, from_batch_records}
 use Rattle.checker.specs.Totals.{record_count}
 use Rattle.walk.specs.declared.Parts.{Parts}
-use borrow.Author.Rules.{rules}
 use Rattle.checker.proofs.Checker.check_batch_trailer.Goals as goal
 
 pub returns : goal.returns

@@ -14,7 +14,6 @@ use Rattle.layout.specs.Records.{shape_of, letter_of, amount_field}
 use Rattle.layout.specs.declared.shapes.Shape.{Shape}
 use Rattle.layout.specs.declared.shapes.LineType.TheVariants.{Detail}
 use Rattle.checker.specs.Totals.{payments_of}
-use borrow.Author.Rules.{rules}
 use Rattle.checker.proofs.Checker.check_detail.Goals as goal
 
 pub overflow_add-few : goal.overflow_add-few

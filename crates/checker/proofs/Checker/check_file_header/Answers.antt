@@ -3,7 +3,6 @@ use mathlib.Core.Path.{◌∙◌}
 use Rattle.answer.proofs.laws.Order.{ahead}
 use Rattle.checker.specs.Line.{rules_of_type}
 use Rattle.checker.proofs.Fields.{file-header}
-use borrow.Author.Rules.{rules}
 use Rattle.checker.proofs.Checker.check_file_header.Goals as goal
 
 pub returns : goal.returns

@@ -8,7 +8,6 @@ use Rattle.checker.specs.Line.{rules_of_type}
 use Rattle.checker.proofs.Fields.{to_file_batches, to_file_records, from_file_records}
 use Rattle.checker.specs.Totals.{record_count}
 use Rattle.walk.specs.declared.Parts.{Parts}
-use borrow.Author.Rules.{rules}
 use Rattle.checker.proofs.Checker.check_file_trailer.Goals as goal
 
 pub returns : goal.returns

@@ -2,7 +2,6 @@
 use mathlib.Core.Path.{◌∙◌}
 use borrow.Author.Tests.{eq-eqb, ne_eqb}
 use Rattle.answer.proofs.laws.Order.{here, past, ahead}
-use borrow.Author.Rules.{rules}
 use Rattle.checker.proofs.Checker.check_front.Goals as goal
 
 pub returns-then-is_ended : goal.returns-then-is_ended

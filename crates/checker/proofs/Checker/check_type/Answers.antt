@@ -12,7 +12,6 @@ use Rattle.layout.specs.declared.shapes.LineType.{LineType}
 use Rattle.layout.specs.declared.shapes.LineType.TheVariants.{FileFirst, BatchFirst, BatchLast, FileLast}
 use Rattle.checker.specs.Line.{rules_of_type}
 use Rattle.checker.specs.declared.Checker.{Checker}
-use borrow.Author.Rules.{rules}
 use Rattle.checker.proofs.Checker.check_type.Goals as goal
 
 -- a header or a trailer is the one record of its type

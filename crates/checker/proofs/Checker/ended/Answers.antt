@@ -1,5 +1,4 @@
 -- `checker::Checker::ended` meets its contract. Assumes nothing.
-use borrow.Author.Rules.{rules}
 use Rattle.checker.proofs.Checker.ended.Goals as goal
 
 pub plus-all-requires : goal.plus-all-requires

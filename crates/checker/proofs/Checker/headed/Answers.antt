@@ -1,5 +1,4 @@
 -- `checker::Checker::headed` meets its contract. Assumes nothing.
-use borrow.Author.Rules.{rules}
 use Rattle.checker.proofs.Checker.headed.Goals as goal
 
 pub plus-requires : goal.plus-requires

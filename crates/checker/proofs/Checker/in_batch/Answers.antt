@@ -1,5 +1,4 @@
 -- `checker::Checker::in_batch` meets its contract. Assumes nothing.
-use borrow.Author.Rules.{rules}
 use Rattle.checker.proofs.Checker.in_batch.Goals as goal
 
 pub plus-requires : goal.plus-requires

@@ -6,7 +6,6 @@ use Rattle.answer.proofs.laws.Sums.{capped_most, capped_below}
 use Rattle.checker.specs.Totals.{payment_count, cent_sum}
 use Rattle.checker.specs.Line.{most_batches, most_payments}
 use Rattle.checker.specs.Machine.{batch_cents_most, sound}
-use borrow.Author.Rules.{rules}
 use Rattle.checker.proofs.Checker.is_sound.Goals as goal
 
 pub returns : goal.returns

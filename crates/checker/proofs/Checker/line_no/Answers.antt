@@ -2,7 +2,6 @@
 use mathlib.Core.Path.{◌≡◌}
 use native.Mathlib.Omega.{arith}
 use Rattle.checker.specs.Machine.{line_of}
-use borrow.Author.Rules.{rules}
 use Rattle.checker.proofs.Checker.line_no.Goals as goal
 
 pub returns : goal.returns

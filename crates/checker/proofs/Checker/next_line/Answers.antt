@@ -1,7 +1,6 @@
 -- `checker::Checker::next_line` meets its contract. Assumes nothing.
 use mathlib.Core.Path.{sym, ◌∙◌}
 use Rattle.checker.proofs.laws.Bounds.{bounded}
-use borrow.Author.Rules.{rules}
 use Rattle.checker.proofs.Checker.next_line.Goals as goal
 
 pub line_no-requires : goal.line_no-requires

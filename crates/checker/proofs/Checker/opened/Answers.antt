@@ -1,5 +1,4 @@
 -- `checker::Checker::opened` meets its contract. Assumes nothing.
-use borrow.Author.Rules.{rules}
 use Rattle.checker.proofs.Checker.opened.Goals as goal
 
 pub returns : goal.returns

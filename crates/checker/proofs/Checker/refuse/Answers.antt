@@ -1,5 +1,4 @@
 -- `checker::Checker::refuse` meets its contract. Assumes nothing.
-use borrow.Author.Rules.{rules}
 use Rattle.checker.proofs.Checker.refuse.Goals as goal
 
 pub returns : goal.returns

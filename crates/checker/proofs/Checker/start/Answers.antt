@@ -1,5 +1,4 @@
 -- `checker::Checker::start` meets its contract. Assumes nothing.
-use borrow.Author.Rules.{rules}
 use Rattle.checker.proofs.Checker.start.Goals as goal
 
 pub returns : goal.returns

@@ -7,7 +7,6 @@ use lib.ListN.{length, length-take}
 use Rattle.checker.specs.Machine.{sound, step_of}
 use Rattle.checker.proofs.laws.Bounds.{bounded}
 use Rattle.checker.proofs.Length.{front_length, from_type, before_type}
-use borrow.Author.Rules.{rules}
 use Rattle.checker.proofs.Checker.step.Goals as goal
 
 pub returns-then-not-is_sound : goal.returns-then-not-is_sound

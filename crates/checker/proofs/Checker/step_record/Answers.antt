@@ -14,7 +14,6 @@ use Rattle.checker.proofs.laws.Bounds.{room}
 use Rattle.checker.specs.declared.order.Reading.{Reading}
 use Rattle.checker.specs.declared.order.Reading.TheVariants.{Line, Nothing}
 use Rattle.checker.specs.declared.Checker.{Checker}
-use borrow.Author.Rules.{rules}
 use Rattle.checker.proofs.Checker.step_record.Goals as goal
 
 module _ (s : Checker) (rec : List ℕ) where

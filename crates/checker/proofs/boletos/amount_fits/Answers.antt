@@ -2,7 +2,6 @@
 use Prim.Native.Nat.{◌+◌}
 use native.Mathlib.Omega.{arith}
 use Rattle.answer.proofs.laws.Sums.{fits}
-use borrow.Author.Rules.{rules}
 use Rattle.checker.proofs.boletos.amount_fits.Goals as goal
 
 pub returns : goal.returns

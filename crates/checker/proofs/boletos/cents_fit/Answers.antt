@@ -1,5 +1,4 @@
 -- `checker::boletos::cents_fit` meets its contract. Assumes nothing.
-use borrow.Author.Rules.{rules}
 use Rattle.checker.proofs.boletos.cents_fit.Goals as goal
 
 pub returns : goal.returns

@@ -2,7 +2,6 @@
 use mathlib.Core.Path.{◌∙◌}
 use Rattle.answer.proofs.laws.Order.{ahead}
 use Rattle.checker.specs.Line.{boleto_rules}
-use borrow.Author.Rules.{rules}
 use Rattle.checker.proofs.boletos.check_boleto.Goals as goal
 
 pub returns : goal.returns

@@ -1,5 +1,4 @@
 -- `checker::boletos::due_fits` meets its contract. Assumes nothing.
-use borrow.Author.Rules.{rules}
 use Rattle.checker.proofs.boletos.due_fits.Goals as goal
 
 pub returns : goal.returns

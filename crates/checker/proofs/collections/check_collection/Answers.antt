@@ -2,7 +2,6 @@
 use mathlib.Core.Path.{◌∙◌}
 use Rattle.answer.proofs.laws.Order.{ahead}
 use Rattle.checker.specs.Line.{collection_rules}
-use borrow.Author.Rules.{rules}
 use Rattle.checker.proofs.collections.check_collection.Goals as goal
 
 pub returns : goal.returns

@@ -1,6 +1,5 @@
 -- `checker::house::check_house` meets its contract. Assumes nothing.
 use Rattle.answer.proofs.laws.Order.{done}
-use borrow.Author.Rules.{rules}
 use Rattle.checker.proofs.house.check_house.Goals as goal
 
 pub returns-in-NoRules : goal.returns-in-NoRules

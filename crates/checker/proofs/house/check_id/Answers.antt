@@ -1,6 +1,5 @@
 -- `checker::house::check_id` meets its contract. Assumes nothing.
 use mathlib.Core.Path.{◌∙◌}
-use borrow.Author.Rules.{rules}
 use Rattle.checker.proofs.house.check_id.Goals as goal
 
 pub returns : goal.returns

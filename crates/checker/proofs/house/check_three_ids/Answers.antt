@@ -1,6 +1,5 @@
 -- `checker::house::check_three_ids` meets its contract: its rules, one after the other. Assumes nothing.
 use Rattle.answer.proofs.laws.Order.{ahead}
-use borrow.Author.Rules.{rules}
 use Rattle.checker.proofs.house.check_three_ids.Goals as goal
 
 pub returns : goal.returns

@@ -1,6 +1,5 @@
 -- `checker::moves::direction_of` meets its contract. Assumes nothing.
 use borrow.Author.Tests.{eq-eqb, ne_eqb}
-use borrow.Author.Rules.{rules}
 use Rattle.checker.proofs.moves.direction_of.Goals as goal
 
 pub returns-then-rec-eq50 : goal.returns-then-rec-eq50

@@ -1,7 +1,6 @@
 -- `checker::order::detail_reading` meets its contract. Assumes nothing.
 use mathlib.Core.Path.{◌∙◌}
 use Rattle.checker.proofs.Edges.{alone_reading, more_reading, z_reading, next_reading}
-use borrow.Author.Rules.{rules}
 use Rattle.checker.proofs.order.detail_reading.Goals as goal
 
 pub returns-in-Opened : goal.returns-in-Opened

@@ -1,6 +1,5 @@
 -- `checker::order::end_reading` meets its contract. Assumes nothing.
 use borrow.Author.Tests.{eq-eqb, ne_eqb}
-use borrow.Author.Rules.{rules}
 use Rattle.checker.proofs.order.end_reading.Goals as goal
 
 pub returns-in-Start : goal.returns-in-Start

@@ -1,5 +1,4 @@
 -- `checker::order::line_if` meets its contract. Assumes nothing.
-use borrow.Author.Rules.{rules}
 use Rattle.checker.proofs.order.line_if.Goals as goal
 
 pub returns-then-allowed : goal.returns-then-allowed

@@ -2,7 +2,6 @@
 use mathlib.Core.Path.{◌∙◌}
 use borrow.Author.Tests.{ne_eqb}
 use Rattle.checker.proofs.Edges.{no_detail}
-use borrow.Author.Rules.{rules}
 use Rattle.checker.proofs.order.line_reading.Goals as goal
 
 pub returns-then-kind-eq-DETAIL : goal.returns-then-kind-eq-DETAIL

@@ -1,6 +1,5 @@
 -- `checker::order::record_at` meets its contract. Assumes nothing.
 use lib.Seq.{drop-nil}
-use borrow.Author.Rules.{rules}
 use Rattle.checker.proofs.order.record_at.Goals as goal
 
 pub returns-in-Credit : goal.returns-in-Credit

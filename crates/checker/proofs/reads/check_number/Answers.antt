@@ -1,7 +1,6 @@
 -- `checker::reads::check_number` meets its contract: digits that give another number, and no digits. Assumes nothing.
 use mathlib.Core.Path.{refl, ◌∙◌}
 use Rattle.answer.proofs.laws.Order.{here}
-use borrow.Author.Rules.{rules}
 use Rattle.checker.proofs.reads.check_number.Goals as goal
 
 pub returns-in-Is : goal.returns-in-Is

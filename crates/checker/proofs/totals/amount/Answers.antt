@@ -4,7 +4,6 @@ use Prim.Native.Nat.{◌+◌, ◌-◌}
 use native.Mathlib.Omega.{arith}
 use lib.ListN.{length, take, drop, length-take, length-drop}
 use Rattle.digits.proofs.laws.Numerals.{value_lt}
-use borrow.Author.Rules.{rules}
 use Rattle.checker.proofs.totals.amount.Goals as goal
 
 pub returns : goal.returns

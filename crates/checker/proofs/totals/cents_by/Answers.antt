@@ -1,5 +1,4 @@
 -- `checker::totals::cents_by` meets its contract. Assumes nothing.
-use borrow.Author.Rules.{rules}
 use Rattle.checker.proofs.totals.cents_by.Goals as goal
 
 pub returns-in-AmountOfA : goal.returns-in-AmountOfA

@@ -2,7 +2,6 @@
 use mathlib.Core.Bool.{not}
 use Rattle.checker.specs.Totals.{withdraws}
 use Rattle.checker.proofs.laws.Sums.{only_tallied}
-use borrow.Author.Rules.{rules}
 use Rattle.checker.proofs.totals.counted.Goals as goal
 
 pub returns : goal.returns

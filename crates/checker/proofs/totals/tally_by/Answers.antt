@@ -1,6 +1,5 @@
 -- `checker::totals::tally_by` meets its contract. Assumes nothing.
 use Rattle.checker.proofs.laws.Sums.{all_tallied}
-use borrow.Author.Rules.{rules}
 use Rattle.checker.proofs.totals.tally_by.Goals as goal
 
 pub returns : goal.returns

@@ -1,5 +1,4 @@
 -- `fields::Fields::give_nth` meets its contract. Assumes nothing.
-use borrow.Author.Rules.{rules}
 use borrow.Author.Tests.{lt-ltb, le-ltb}
 use Rattle.fields.proofs.Fields.give_nth.Goals as goal
 

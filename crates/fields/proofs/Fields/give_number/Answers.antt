@@ -1,6 +1,5 @@
 -- `fields::Fields::give_number` meets its contract. Assumes nothing.
 use mathlib.Core.Path.{sym, ◌∙◌}
-use borrow.Author.Rules.{rules}
 use Rattle.fields.proofs.Fields.give_number.Goals as goal
 
 pub returns-then-is_of : goal.returns-then-is_of

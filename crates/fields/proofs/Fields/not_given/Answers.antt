@@ -1,6 +1,5 @@
 -- `fields::Fields::not_given` meets its contract. Assumes nothing.
 use mathlib.Core.Path.{◌∙◌}
-use borrow.Author.Rules.{rules}
 use Rattle.fields.proofs.Fields.not_given.Goals as goal
 
 pub returns : goal.returns

@@ -1,6 +1,5 @@
 -- `fields::Fields::taken_as` meets its contract. Assumes nothing.
 use mathlib.Core.Path.{sym, ◌∙◌}
-use borrow.Author.Rules.{rules}
 use Rattle.fields.proofs.Fields.taken_as.Goals as goal
 
 pub returns-then-is_of : goal.returns-then-is_of

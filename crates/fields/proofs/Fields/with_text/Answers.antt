@@ -1,6 +1,5 @@
 -- `fields::Fields::with_text` meets its contract. Assumes nothing.
 use mathlib.Core.Path.{sym, ◌∙◌}
-use borrow.Author.Rules.{rules}
 use Rattle.fields.proofs.Fields.with_text.Goals as goal
 
 pub returns-then-is_of : goal.returns-then-is_of

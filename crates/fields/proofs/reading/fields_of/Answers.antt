@@ -1,19 +1,15 @@
 -- `fields::reading::fields_of` meets its contract: storing the rest from here gives what storing all gives. Assumes nothing.
 use mathlib.Core.Path.{◌≡◌, refl, sym, ap, ◌∙◌}
-use mathlib.Core.Bool.{Bool, true}
-use mathlib.Core.List.{List}
-use Prim.Native.Nat.{ℕ, ◌+◌, ◌-◌, ◌≤◌}
+use mathlib.Core.Bool.{true}
 use native.Mathlib.Nat.{sub_self}
 use borrow.Author.Rules.{rules}
-use lib.ListN.{length, length-set}
+use lib.ListN.{length-set}
 use lib.Seq.{slice}
-use Rattle.layout.specs.inner.Lent.{field_count}
-use Rattle.layout.specs.Field.{Field}
 use Rattle.layout.specs.Table.{fields_of, fields_of_each, all}
 use Rattle.layout.proofs.laws.Columns.{fields_there, first_is, past_is, in_order, in_table}
-use Rattle.fields.specs.Values.{most_fields, is_given, or_zero, read_at, fields_in}
+use Rattle.fields.specs.Values.{is_given, or_zero, fields_in}
 use Rattle.fields.proofs.laws.Parts.{few, narrow}
-use Rattle.fields.proofs.Store.{store_fields, store_more, store_end, store_record}
+use Rattle.fields.proofs.Store.{store_more, store_end, store_record}
 use Rattle.fields.proofs.reading.fields_of.Goals as goal
 
 pub loop-f-init : goal.loop-f-init

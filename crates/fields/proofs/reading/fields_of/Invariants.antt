@@ -1,18 +1,14 @@
-use mathlib.Core.Path.{◌≡◌, refl, sym, ap, ◌∙◌}
-use mathlib.Core.Bool.{Bool, true}
+use mathlib.Core.Path.{◌≡◌}
+use mathlib.Core.Bool.{Bool}
 use mathlib.Core.List.{List}
 use Prim.Native.Nat.{ℕ, ◌+◌, ◌-◌, ◌≤◌}
-use native.Mathlib.Nat.{sub_self}
-use borrow.Author.Rules.{rules}
-use lib.ListN.{length, length-set}
+use lib.ListN.{length}
 use lib.Seq.{slice}
 use Rattle.layout.specs.inner.Lent.{field_count}
 use Rattle.layout.specs.Field.{Field}
-use Rattle.layout.specs.Table.{fields_of, fields_of_each, all}
-use Rattle.layout.proofs.laws.Columns.{fields_there, first_is, past_is, in_order, in_table}
-use Rattle.fields.specs.Values.{most_fields, is_given, or_zero, read_at, fields_in}
-use Rattle.fields.proofs.laws.Parts.{few, narrow}
-use Rattle.fields.proofs.Store.{store_fields, store_more, store_end, store_record}
+use Rattle.layout.specs.Table.{all}
+use Rattle.fields.specs.Values.{most_fields, is_given, or_zero, read_at}
+use Rattle.fields.proofs.Store.{store_fields}
 use Rattle.fields.proofs.reading.fields_of.Given as goal
 
 -- what is stored for a field in each column

@@ -1,5 +1,4 @@
 -- `fields::reading::number_in` meets its contract. Assumes nothing.
-use borrow.Author.Rules.{rules}
 use Rattle.fields.proofs.Fills.{as_number, as_text, as-fixed}
 use Rattle.fields.proofs.reading.number_in.Goals as goal
 

@@ -1,6 +1,5 @@
 -- `fields::reading::read_record` meets its contract. Assumes nothing.
 use mathlib.Core.Path.{sym, ◌∙◌}
-use borrow.Author.Rules.{rules}
 use Rattle.fields.specs.Values.{read_record}
 use Rattle.fields.proofs.laws.Kept.{right_length}
 use Rattle.fields.proofs.reading.read_record.Goals as goal

@@ -1,6 +1,5 @@
 -- `fields::reading::text_of` meets its contract. Assumes nothing.
 use mathlib.Core.Path.{◌∙◌}
-use borrow.Author.Rules.{rules}
 use Rattle.layout.proofs.laws.Bytes.{over_all}
 use Rattle.fields.proofs.reading.text_of.Goals as goal
 

@@ -1,6 +1,5 @@
 -- `fields::table::count` meets its contract. Assumes nothing.
 use native.Mathlib.Omega.{arith}
-use borrow.Author.Rules.{rules}
 use Rattle.layout.proofs.laws.Columns.{first_is, past_is, in_order}
 use Rattle.fields.proofs.table.count.Goals as goal
 

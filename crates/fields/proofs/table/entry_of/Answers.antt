@@ -2,7 +2,6 @@
 use mathlib.Core.Path.{refl}
 use Prim.Native.Nat.{◌+◌, ◌<◌}
 use native.Mathlib.Omega.{arith}
-use borrow.Author.Rules.{rules}
 use Rattle.layout.specs.inner.Lent.{field_count}
 use Rattle.layout.specs.Table.{fields_of, fields_of_each, all}
 use Rattle.layout.proofs.laws.Columns.{first_is, past_is, in_table}

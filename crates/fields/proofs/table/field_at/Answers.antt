@@ -1,5 +1,4 @@
 -- `fields::table::field_at` meets its contract, by the law on the table's columns. Assumes nothing.
-use borrow.Author.Rules.{rules}
 use Rattle.layout.proofs.laws.Columns.{column}
 use Rattle.fields.proofs.table.field_at.Goals as goal
 

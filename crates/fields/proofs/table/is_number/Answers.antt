@@ -1,6 +1,5 @@
 -- `fields::table::is_number` meets its contract. Assumes nothing.
 use mathlib.Core.Path.{◌≡◌, sym, ap, ◌∙◌}
-use borrow.Author.Rules.{rules}
 use borrow.Author.Tests.{lt-ltb, le-ltb}
 use Rattle.layout.specs.inner.Lent.{kind_of}
 use Rattle.layout.specs.Field.{Field}

@@ -1,6 +1,5 @@
 -- `fields::table::may_be_absent` meets its contract. Assumes nothing.
 use mathlib.Core.Path.{ap, ◌∙◌}
-use borrow.Author.Rules.{rules}
 use borrow.Author.Tests.{lt-ltb, le-ltb}
 use Rattle.layout.specs.Field.{Field}
 use Rattle.layout.specs.Kinds.{may_be_absent}

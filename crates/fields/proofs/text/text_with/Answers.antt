@@ -1,7 +1,6 @@
 -- `fields::text::text_with` meets its contract. Assumes nothing.
 use mathlib.Core.Path.{ap, ◌∙◌}
 use native.Mathlib.Omega.{arith}
-use borrow.Author.Rules.{rules}
 use borrow.Author.Tests.{lt-ltb, le-ltb}
 use Rattle.layout.specs.inner.Lent.{kind_of}
 use Rattle.layout.specs.Field.{Field, field}

@@ -1,7 +1,6 @@
 -- `fields::writing::bytes_of` meets its contract. Assumes nothing.
 use mathlib.Core.Path.{◌∙◌}
 use mathlib.Core.List.{append-nil}
-use borrow.Author.Rules.{rules}
 use Rattle.fields.proofs.writing.bytes_of.Goals as goal
 
 pub returns : goal.returns

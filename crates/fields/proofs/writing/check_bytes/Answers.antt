@@ -1,5 +1,4 @@
 -- `fields::writing::check_bytes` meets its contract. Assumes nothing.
-use borrow.Author.Rules.{rules}
 use Rattle.fields.proofs.writing.check_bytes.Goals as goal
 
 pub returns : goal.returns

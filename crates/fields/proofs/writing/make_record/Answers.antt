@@ -1,5 +1,4 @@
 -- `fields::writing::make_record` meets its contract. Assumes nothing.
-use borrow.Author.Rules.{rules}
 use Rattle.fields.specs.Values.{made_of}
 use Rattle.fields.proofs.writing.make_record.Goals as goal
 

@@ -1,20 +1,11 @@
-use mathlib.Core.Path.{◌≡◌, refl, sym, ap, ◌∙◌}
+use mathlib.Core.Path.{◌≡◌}
 use Prim.Native.Nat.{◌+◌, ◌-◌, ◌≤◌}
-use native.Mathlib.Nat.{sub_self}
-use native.Mathlib.Omega.{arith}
-use borrow.Author.Rules.{rules}
-use lib.ListN.{length, length-map}
+use lib.ListN.{length}
 use lib.Seq.{slice}
-use Rattle.digits.specs.Digits.{places}
-use Rattle.digits.specs.declared.spelling.Number.{Number}
-use Rattle.layout.specs.inner.Lent.{field_count, kind_of}
-use Rattle.layout.specs.Kinds.{means}
+use Rattle.layout.specs.inner.Lent.{field_count}
 use Rattle.layout.specs.Table.{record_bytes, all}
-use Rattle.layout.proofs.laws.Bytes.{length_places}
-use Rattle.layout.proofs.laws.Columns.{fields_there, first_is, past_is, in_order, in_table}
-use Rattle.fields.specs.Values.{most_fields, rendered, record_of}
-use Rattle.fields.proofs.laws.Parts.{narrow}
-use Rattle.fields.proofs.Put.{put_fields, numbered, put_more, put_end, put_record}
+use Rattle.fields.specs.Values.{most_fields}
+use Rattle.fields.proofs.Put.{put_fields, numbered}
 use Rattle.fields.proofs.writing.render.Given as goal
 
 abbrev pub invariant-loop-f : goal.invariant-loop-f

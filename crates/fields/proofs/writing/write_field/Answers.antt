@@ -1,6 +1,5 @@
 -- `fields::writing::write_field` meets its contract. Assumes nothing.
 use mathlib.Core.Path.{sym, ap, ◌∙◌}
-use borrow.Author.Rules.{rules}
 use Rattle.layout.specs.Kinds.{Held}
 use Rattle.layout.proofs.laws.Bytes.{over_all}
 use Rattle.fields.specs.Values.{rendered}

@@ -1,6 +1,5 @@
 -- `fields::writing::write_given` meets its contract. Assumes nothing.
 use mathlib.Core.Path.{◌∙◌}
-use borrow.Author.Rules.{rules}
 use lib.ListN.{length}
 use Rattle.layout.specs.Kinds.{blank}
 use Rattle.layout.proofs.laws.Contents.{run_is}

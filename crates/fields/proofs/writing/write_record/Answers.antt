@@ -1,5 +1,4 @@
 -- `fields::writing::write_record` meets its contract. Assumes nothing.
-use borrow.Author.Rules.{rules}
 use Rattle.fields.proofs.Making.{writes}
 use Rattle.fields.proofs.writing.write_record.Goals as goal
 

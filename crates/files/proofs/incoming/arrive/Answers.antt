@@ -1,6 +1,5 @@
 -- `files::incoming::arrive` meets its contract. Assumes nothing.
 use mathlib.Core.Path.{◌∙◌, sym}
-use borrow.Author.Rules.{rules}
 use Rattle.files.proofs.Arriving.{lines_first}
 use Rattle.files.proofs.incoming.arrive.Goals as goal
 

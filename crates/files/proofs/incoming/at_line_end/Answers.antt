@@ -1,5 +1,4 @@
 -- `files::incoming::at_line_end` meets its contract. Assumes nothing.
-use borrow.Author.Rules.{rules}
 use Rattle.files.proofs.incoming.at_line_end.Goals as goal
 
 pub returns : goal.returns

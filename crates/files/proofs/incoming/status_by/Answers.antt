@@ -1,5 +1,4 @@
 -- `files::incoming::status_by` meets its contract. Assumes nothing.
-use borrow.Author.Rules.{rules}
 use Rattle.files.proofs.incoming.status_by.Goals as goal
 
 pub returns-in-Refused : goal.returns-in-Refused

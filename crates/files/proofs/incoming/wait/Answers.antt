@@ -1,6 +1,5 @@
 -- `files::incoming::wait` meets its contract. Assumes nothing.
 use native.Mathlib.Omega.{arith}
-use borrow.Author.Rules.{rules}
 use Rattle.files.proofs.Waiting.{first_joined}
 use Rattle.files.proofs.Arriving.{kept, judged}
 use Rattle.files.proofs.incoming.wait.Goals as goal

@@ -1,9 +1,7 @@
 -- `files::lines::run` meets its contract. The loop: the steps from the place on give what all steps give. Assumes nothing.
 use mathlib.Core.Path.{◌≡◌, refl, sym, ◌∙◌}
-use Prim.Native.Nat.{◌≤◌, ◌-◌}
 use native.Mathlib.Omega.{arith}
-use borrow.Author.Rules.{rules}
-use lib.ListN.{length, drop}
+use lib.ListN.{drop}
 use Rattle.files.specs.File.{lines_of, unless, steps}
 use Rattle.files.proofs.Rounds.{turn, no_more, stop_here}
 use Rattle.files.proofs.lines.run.Goals as goal

@@ -1,10 +1,7 @@
-use mathlib.Core.Path.{◌≡◌, refl, sym, ◌∙◌}
+use mathlib.Core.Path.{◌≡◌}
 use Prim.Native.Nat.{◌≤◌, ◌-◌}
-use native.Mathlib.Omega.{arith}
-use borrow.Author.Rules.{rules}
 use lib.ListN.{length, drop}
-use Rattle.files.specs.File.{lines_of, unless, steps}
-use Rattle.files.proofs.Rounds.{turn, no_more, stop_here}
+use Rattle.files.specs.File.{lines_of, steps}
 use Rattle.files.proofs.lines.run.Given as goal
 
 abbrev pub invariant-loop-at : goal.invariant-loop-at

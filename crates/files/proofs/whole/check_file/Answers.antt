@@ -1,5 +1,4 @@
 -- `files::whole::check_file` meets its contract. Assumes nothing.
-use borrow.Author.Rules.{rules}
 use Rattle.files.proofs.whole.check_file.Goals as goal
 
 pub returns : goal.returns

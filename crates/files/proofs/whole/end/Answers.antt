@@ -2,7 +2,6 @@
 use mathlib.Core.Path.{sym, ◌∙◌}
 use borrow.Author.Tests.{not-true, not-false}
 use Rattle.files.specs.File.{end_of}
-use borrow.Author.Rules.{rules}
 use Rattle.files.proofs.whole.end.Goals as goal
 
 pub returns-then-not-is_sound : goal.returns-then-not-is_sound

@@ -1,6 +1,5 @@
 -- `files::whole::finish` meets its contract: the run, then the end. Assumes nothing.
 use mathlib.Core.Path.{◌≡◌, ◌∙◌}
-use borrow.Author.Rules.{rules}
 use Rattle.files.specs.File.{end_of, outcome, finish}
 use Rattle.files.proofs.whole.finish.Goals as goal
 

@@ -1,11 +1,8 @@
 -- `layout::bytes::copy` meets its contract: what is copied, and what is left to copy, give what the whole copy gives. Assumes nothing.
-use mathlib.Core.Path.{◌≡◌, refl, sym, ◌∙◌}
-use mathlib.Core.List.{◌++◌}
-use Prim.Native.Nat.{◌-◌, ◌≤◌}
+use mathlib.Core.Path.{refl, sym, ◌∙◌}
 use native.Mathlib.Numerals.{add-one}
 use borrow.Author.Rules.{rules}
-use lib.ListN.{length, take, drop, length-set}
-use Rattle.answer.specs.Output.{over}
+use lib.ListN.{length-set}
 use Rattle.layout.proofs.laws.Bytes.{over_turn, over_end_text, over_end_out}
 use Rattle.layout.proofs.bytes.copy.Goals as goal
 

@@ -1,6 +1,5 @@
 -- `layout::fixed::byte_in` meets its contract. Assumes nothing.
 use mathlib.Core.Path.{sym}
-use borrow.Author.Rules.{rules}
 use lib.ListN.{get_or-eq_default}
 use Rattle.layout.proofs.fixed.byte_in.Goals as goal
 

@@ -1,6 +1,5 @@
 -- `layout::pairs::batch_of` meets its contract. Assumes nothing.
 use mathlib.Core.Path.{refl, sym, ◌∙◌}
-use borrow.Author.Rules.{rules}
 use Rattle.digits.specs.Numbers.{number_of}
 use Rattle.layout.specs.Pairs.{pairs}
 use Rattle.layout.proofs.laws.Bytes.{no_service, no_form, batch_is}

@@ -1,6 +1,5 @@
 -- `layout::pairs::batch_with` meets its contract. Assumes nothing.
 use mathlib.Core.Bool.{or-false}
-use borrow.Author.Rules.{rules}
 use lib.Dec.{eqb}
 use Rattle.layout.proofs.pairs.batch_with.Goals as goal
 

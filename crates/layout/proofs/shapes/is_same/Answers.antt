@@ -1,5 +1,4 @@
 -- `layout::shapes::is_same` meets its contract. Assumes nothing.
-use borrow.Author.Rules.{rules}
 use Rattle.layout.proofs.shapes.is_same.Goals as goal
 
 pub returns : goal.returns

@@ -1,5 +1,4 @@
 -- `layout::shapes::shape_of` meets its contract, record by record. Assumes nothing.
-use borrow.Author.Rules.{rules}
 use Rattle.layout.proofs.shapes.shape_of.Goals as goal
 
 pub returns-in-FileHeader : goal.returns-in-FileHeader

@@ -1,5 +1,4 @@
 -- `layout::table::entry_at` meets its contract. Assumes nothing.
-use borrow.Author.Rules.{rules}
 use Rattle.layout.proofs.table.entry_at.Goals as goal
 
 pub returns : goal.returns

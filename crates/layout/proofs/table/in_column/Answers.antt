@@ -1,5 +1,4 @@
 -- `layout::table::in_column` meets its contract. Assumes nothing.
-use borrow.Author.Rules.{rules}
 use borrow.Author.Tests.{lt-ltb, le-ltb}
 use Rattle.layout.proofs.table.in_column.Goals as goal
 

@@ -1,7 +1,6 @@
 -- `layout::table::span_of` meets its contract, by the law on the records' rows. Assumes nothing.
 use mathlib.Core.Path.{◌≡◌, ap, subst⁻¹}
 use Prim.Native.Nat.{ℕ, ◌<◌}
-use borrow.Author.Rules.{rules}
 use native.Mathlib.Omega.{arith}
 use Rattle.layout.specs.inner.Lent.{span_of}
 use Rattle.layout.proofs.laws.Columns.{starts, span_in, starts_are}

@@ -1,15 +1,7 @@
-use mathlib.Core.Path.{◌≡◌, sym, ◌∙◌}
-use mathlib.Core.Bool.{true, false}
+use mathlib.Core.Path.{◌≡◌}
 use Prim.Native.Nat.{◌+◌, ◌-◌, ◌≤◌}
-use mathlib.Core.Logic.{◌≢◌}
-use native.Mathlib.Omega.{arith}
-use native.Mathlib.Numerals.{add-one}
-use borrow.Author.Rules.{rules}
-use borrow.Author.Tests.{not-true, not-false, eq-eqb, ne_eqb}
-use lib.ListN.{length, get_or, drop, drop_of_length-le}
-use Rattle.answer.proofs.laws.Order.{past, here, done}
-use Rattle.layout.specs.Record.{printable, clean}
-use Rattle.layout.proofs.laws.Bytes.{clean_turn}
+use lib.ListN.{length, drop}
+use Rattle.layout.specs.Record.{clean}
 use Rattle.walk.proofs.bytes.check_bytes.Given as goal
 
 abbrev pub invariant-bytes : goal.invariant-bytes

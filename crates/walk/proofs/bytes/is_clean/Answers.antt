@@ -1,11 +1,10 @@
 -- `walk::bytes::is_clean` meets its contract: so far, and the rest, is the whole. Assumes nothing.
-use mathlib.Core.Path.{◌≡◌, refl, sym, ◌∙◌}
-use mathlib.Core.Bool.{◌&&◌, and-true}
-use Prim.Native.Nat.{◌-◌, ◌≤◌}
+use mathlib.Core.Path.{refl, sym, ◌∙◌}
+use mathlib.Core.Bool.{and-true}
 use native.Mathlib.Numerals.{add-one}
 use borrow.Author.Rules.{rules}
-use lib.ListN.{length, drop, drop_of_length-le}
-use Rattle.layout.specs.Record.{clean, all_printable}
+use lib.ListN.{drop_of_length-le}
+use Rattle.layout.specs.Record.{clean}
 use Rattle.digits.proofs.laws.Tests.{and_regroup}
 use Rattle.layout.proofs.laws.Bytes.{printable_turn}
 use Rattle.walk.proofs.bytes.is_clean.Goals as goal

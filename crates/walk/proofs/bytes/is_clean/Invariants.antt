@@ -1,12 +1,8 @@
-use mathlib.Core.Path.{◌≡◌, refl, sym, ◌∙◌}
-use mathlib.Core.Bool.{◌&&◌, and-true}
+use mathlib.Core.Path.{◌≡◌}
+use mathlib.Core.Bool.{◌&&◌}
 use Prim.Native.Nat.{◌-◌, ◌≤◌}
-use native.Mathlib.Numerals.{add-one}
-use borrow.Author.Rules.{rules}
-use lib.ListN.{length, drop, drop_of_length-le}
-use Rattle.layout.specs.Record.{clean, all_printable}
-use Rattle.digits.proofs.laws.Tests.{and_regroup}
-use Rattle.layout.proofs.laws.Bytes.{printable_turn}
+use lib.ListN.{length, drop}
+use Rattle.layout.specs.Record.{all_printable}
 use Rattle.walk.proofs.bytes.is_clean.Given as goal
 
 abbrev pub invariant-loop-i : goal.invariant-loop-i

@@ -1,6 +1,5 @@
 -- `walk::looks::barcode` meets its contract. Assumes nothing.
 use mathlib.Core.Path.{◌∙◌}
-use borrow.Author.Rules.{rules}
 use Rattle.answer.proofs.laws.Order.{one_then}
 use Rattle.walk.proofs.looks.barcode.Goals as goal
 

@@ -1,6 +1,5 @@
 -- `walk::looks::id` meets its contract. Assumes nothing.
 use mathlib.Core.Path.{◌∙◌}
-use borrow.Author.Rules.{rules}
 use Rattle.walk.proofs.looks.id.Goals as goal
 
 pub returns : goal.returns

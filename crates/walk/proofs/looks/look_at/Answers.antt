@@ -1,7 +1,6 @@
 -- `walk::looks::look_at` meets its contract: in each arm the kind's row computes. Assumes nothing.
 use mathlib.Core.Path.{refl, ◌∙◌}
 use mathlib.Core.List.{[], ◌∷◌}
-use borrow.Author.Rules.{rules}
 use Rattle.answer.proofs.laws.Order.{done}
 use Rattle.layout.specs.inner.Lent.{kind_count}
 use Rattle.layout.specs.Kinds.{run, text, blank}

@@ -1,6 +1,5 @@
 -- `walk::looks::number_or_blank` meets its contract. Assumes nothing.
 use mathlib.Core.Path.{sym, ◌∙◌}
-use borrow.Author.Rules.{rules}
 use Rattle.walk.proofs.looks.number_or_blank.Goals as goal
 
 pub returns-then-begins_blank : goal.returns-then-begins_blank

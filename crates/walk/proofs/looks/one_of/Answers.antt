@@ -1,11 +1,9 @@
 -- `walk::looks::one_of` meets its contract: what is among the rest is among all. Assumes nothing.
-use mathlib.Core.Path.{◌≡◌, refl, sym, ◌∙◌}
-use Prim.Native.Nat.{◌-◌, ◌≤◌}
+use mathlib.Core.Path.{refl, sym, ◌∙◌}
 use native.Mathlib.Numerals.{add-one}
 use borrow.Author.Rules.{rules}
 use borrow.Author.Tests.{eq-eqb, ne_eqb}
-use lib.ListN.{length, get_or, drop, drop_of_length-le}
-use Rattle.layout.specs.Pairs.{among}
+use lib.ListN.{get_or, drop_of_length-le}
 use Rattle.layout.proofs.laws.Bytes.{among_turn}
 use Rattle.walk.proofs.looks.one_of.Goals as goal
 

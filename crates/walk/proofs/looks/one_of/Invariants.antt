@@ -1,11 +1,7 @@
-use mathlib.Core.Path.{◌≡◌, refl, sym, ◌∙◌}
+use mathlib.Core.Path.{◌≡◌}
 use Prim.Native.Nat.{◌-◌, ◌≤◌}
-use native.Mathlib.Numerals.{add-one}
-use borrow.Author.Rules.{rules}
-use borrow.Author.Tests.{eq-eqb, ne_eqb}
-use lib.ListN.{length, get_or, drop, drop_of_length-le}
+use lib.ListN.{length, drop}
 use Rattle.layout.specs.Pairs.{among}
-use Rattle.layout.proofs.laws.Bytes.{among_turn}
 use Rattle.walk.proofs.looks.one_of.Given as goal
 
 abbrev pub invariant-loop-i : goal.invariant-loop-i

@@ -1,6 +1,5 @@
 -- `walk::looks::pair` meets its contract. Assumes nothing.
 use mathlib.Core.Path.{sym, ◌∙◌, ap}
-use borrow.Author.Rules.{rules}
 use Rattle.answer.proofs.laws.Order.{past, here, done}
 use Rattle.layout.specs.Pairs.{known}
 use Rattle.walk.proofs.looks.pair.Goals as goal

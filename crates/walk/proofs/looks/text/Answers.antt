@@ -1,6 +1,5 @@
 -- `walk::looks::text` meets its contract. Assumes nothing.
 use mathlib.Core.Path.{sym, ◌∙◌}
-use borrow.Author.Rules.{rules}
 use Rattle.walk.proofs.looks.text.Goals as goal
 
 pub returns-then-begins_blank : goal.returns-then-begins_blank

@@ -1,11 +1,9 @@
 -- `walk::masks::fits` meets its contract: so far, and the rest, is the whole. Assumes nothing.
-use mathlib.Core.Path.{◌≡◌, refl, sym, ◌∙◌}
-use mathlib.Core.Bool.{◌&&◌, and-true}
-use Prim.Native.Nat.{◌-◌, ◌≤◌}
+use mathlib.Core.Path.{refl, sym, ◌∙◌}
+use mathlib.Core.Bool.{and-true}
 use native.Mathlib.Numerals.{add-one}
 use borrow.Author.Rules.{rules}
-use lib.ListN.{drop, drop_of_length-le}
-use Rattle.layout.specs.Table.{record_bytes}
+use lib.ListN.{drop_of_length-le}
 use Rattle.walk.specs.inner.Masks.{within}
 use Rattle.digits.proofs.laws.Tests.{and_regroup}
 use Rattle.walk.proofs.laws.Masks.{within_turn}

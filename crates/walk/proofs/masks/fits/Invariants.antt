@@ -1,13 +1,9 @@
-use mathlib.Core.Path.{◌≡◌, refl, sym, ◌∙◌}
-use mathlib.Core.Bool.{◌&&◌, and-true}
+use mathlib.Core.Path.{◌≡◌}
+use mathlib.Core.Bool.{◌&&◌}
 use Prim.Native.Nat.{◌-◌, ◌≤◌}
-use native.Mathlib.Numerals.{add-one}
-use borrow.Author.Rules.{rules}
-use lib.ListN.{drop, drop_of_length-le}
+use lib.ListN.{drop}
 use Rattle.layout.specs.Table.{record_bytes}
 use Rattle.walk.specs.inner.Masks.{within}
-use Rattle.digits.proofs.laws.Tests.{and_regroup}
-use Rattle.walk.proofs.laws.Masks.{within_turn}
 use Rattle.walk.proofs.masks.fits.Given as goal
 
 abbrev pub invariant-loop-i : goal.invariant-loop-i

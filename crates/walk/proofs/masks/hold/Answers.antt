@@ -1,5 +1,4 @@
 -- `walk::masks::hold` meets its contract: the arrays are the masks of the record's fields, which antt computes. Assumes nothing.
-use borrow.Author.Rules.{rules}
 use Rattle.layout.specs.Table.{fields_of}
 use Rattle.layout.specs.Kinds.{same}
 use Rattle.walk.specs.inner.Masks.{lows_of, highs_of}

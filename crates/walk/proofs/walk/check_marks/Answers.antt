@@ -1,7 +1,6 @@
 -- `walk::walk::check_marks` meets its contract. Assumes nothing.
 use mathlib.Core.Path.{◌≡◌, sym, ap, ◌∙◌}
 use native.Mathlib.Omega.{arith}
-use borrow.Author.Rules.{rules}
 use borrow.Author.Tests.{not-true, not-false}
 use Rattle.layout.proofs.laws.Columns.{type_there, segment_there, first_is, marks_in_table}
 use Rattle.layout.specs.Records.{shape_of, is_detail}

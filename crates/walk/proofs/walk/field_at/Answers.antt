@@ -1,5 +1,4 @@
 -- `walk::walk::field_at` meets its contract, by the law on the table's columns. Assumes nothing.
-use borrow.Author.Rules.{rules}
 use borrow.Author.Tests.{lt-ltb}
 use Rattle.layout.proofs.laws.Columns.{column}
 use Rattle.walk.proofs.walk.field_at.Goals as goal

@@ -1,27 +1,19 @@
 -- `walk::walk::walk` meets its contract. The fields' loop: the answer for the fields from f on is that for all. The digits' loop: the digits
 -- are i and those that the rest begins with. The content's loop: the rest is the same just if all is. Assumes nothing.
 use mathlib.Core.Path.{◌≡◌, refl, sym, ◌∙◌}
-use mathlib.Core.Logic.{⊎_elim}
 use mathlib.Core.Bool.{true, not, ◌&&◌}
-use mathlib.Core.List.{List}
-use Prim.Native.Nat.{ℕ, ◌+◌, ◌-◌, ◌≤◌, zero-le}
+use Prim.Native.Nat.{zero-le}
 use native.Mathlib.Omega.{arith}
 use borrow.Author.Rules.{rules}
 use borrow.Author.Tests.{not-true}
-use lib.ListN.{length, drop}
-use lib.Seq.{slice}
-use Rattle.answer.specs.Rules.{Rule, first_broken}
+use Rattle.answer.specs.Rules.{first_broken}
 use Rattle.answer.specs.declared.Answer.TheVariants.{Accepted}
-use Rattle.digits.specs.Digits.{leading, places}
-use Rattle.layout.specs.Table.{all}
+use Rattle.digits.specs.Digits.{places}
 use Rattle.layout.specs.inner.Lent.{kind_of, is_whole}
 use Rattle.layout.specs.Kinds.{a_part, means}
-use Rattle.layout.specs.Record.{rules_of}
 use Rattle.layout.proofs.laws.Bytes.{and_left, and_right, length_places}
-use Rattle.layout.specs.declared.Direction.{Direction}
-use Rattle.layout.specs.declared.table.Entry.{Entry}
 use Rattle.walk.proofs.Rows.{digits_looked, content_looked, was_tested}
-use Rattle.walk.proofs.Rounds.{digit_more, digit_wrong, digits_end, Compared, byte_more, byte_wrong, content_end, only_kept, only_broken, Here, here_at, skip_at, finished}
+use Rattle.walk.proofs.Rounds.{digit_more, digit_wrong, digits_end, byte_more, byte_wrong, content_end, only_kept, only_broken, Here, here_at, skip_at, finished}
 use Rattle.walk.proofs.walk.walk.Goals as goal
 use Rattle.walk.proofs.walk.walk.Goals.{in-Digits+else-loop-i-test, in-Fixed+else-loop-i-2-test, in-Tested+in-Accepted}
 

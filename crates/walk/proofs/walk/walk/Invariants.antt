@@ -1,25 +1,12 @@
-use mathlib.Core.Path.{◌≡◌, refl, sym, ◌∙◌}
-use mathlib.Core.Logic.{⊎_elim}
-use mathlib.Core.Bool.{true, not, ◌&&◌}
-use mathlib.Core.List.{List}
-use Prim.Native.Nat.{ℕ, ◌+◌, ◌-◌, ◌≤◌, zero-le}
-use native.Mathlib.Omega.{arith}
-use borrow.Author.Rules.{rules}
-use borrow.Author.Tests.{not-true}
+use mathlib.Core.Path.{◌≡◌}
+use Prim.Native.Nat.{◌+◌, ◌-◌, ◌≤◌}
 use lib.ListN.{length, drop}
 use lib.Seq.{slice}
-use Rattle.answer.specs.Rules.{Rule, first_broken}
-use Rattle.answer.specs.declared.Answer.TheVariants.{Accepted}
-use Rattle.digits.specs.Digits.{leading, places}
+use Rattle.answer.specs.Rules.{first_broken}
+use Rattle.digits.specs.Digits.{leading}
 use Rattle.layout.specs.Table.{all}
-use Rattle.layout.specs.inner.Lent.{kind_of, is_whole}
-use Rattle.layout.specs.Kinds.{a_part, means}
 use Rattle.layout.specs.Record.{rules_of}
-use Rattle.layout.proofs.laws.Bytes.{and_left, and_right, length_places}
-use Rattle.layout.specs.declared.Direction.{Direction}
-use Rattle.layout.specs.declared.table.Entry.{Entry}
-use Rattle.walk.proofs.Rows.{digits_looked, content_looked, was_tested}
-use Rattle.walk.proofs.Rounds.{digit_more, digit_wrong, digits_end, Compared, byte_more, byte_wrong, content_end, only_kept, only_broken, Here, here_at, skip_at, finished}
+use Rattle.walk.proofs.Rounds.{Compared}
 use Rattle.walk.proofs.walk.walk.Given as goal
 
 abbrev pub invariant-loop-i : goal.invariant-loop-i

@@ -6,7 +6,6 @@ use Rattle.fields.specs.Values.{taken_as}
 use Rattle.writer.specs.Given.{open_batch}
 use Rattle.writer.specs.Refusals.{turn_rules}
 use Rattle.writer.proofs.laws.TakesCall.{batch_may}
-use borrow.Author.Rules.{rules}
 use mathlib.Core.List.{[], ◌∷◌}
 use mathlib.Core.Path.{◌≡◌, ◌∙◌}
 use mathlib.Core.Path.{refl}

@@ -4,7 +4,6 @@ use Rattle.writer.proofs.Answering.{turn_is, turned, whole_call}
 use Rattle.writer.specs.Given.{pay}
 use Rattle.writer.specs.Refusals.{turn_rules}
 use Rattle.writer.proofs.laws.TakesCall.{pay_may}
-use borrow.Author.Rules.{rules}
 use mathlib.Core.Path.{◌≡◌, ◌∙◌}
 use Rattle.writer.proofs.Writer.payment.Goals as goal
 

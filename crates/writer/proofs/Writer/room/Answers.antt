@@ -1,5 +1,4 @@
 -- `writer::Writer::room` meets its contract. Assumes nothing.
-use borrow.Author.Rules.{rules}
 use Rattle.writer.proofs.Writer.room.Goals as goal
 
 pub returns : goal.returns

@@ -1,5 +1,4 @@
 -- `writer::Writer::start` meets its contract. Assumes nothing.
-use borrow.Author.Rules.{rules}
 use Rattle.writer.proofs.Writer.start.Goals as goal
 
 pub returns : goal.returns

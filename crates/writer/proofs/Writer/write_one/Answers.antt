@@ -12,7 +12,6 @@ use Rattle.writer.proofs.Trying.{line_made}
 use Rattle.writer.specs.Outcome.{cursor_behind, behind_all, lines_for}
 use Rattle.writer.specs.Refusals.{given_on_line}
 use Rattle.writer.specs.inner.Steps.{one_rules, line_with}
-use borrow.Author.Rules.{rules}
 use lib.ListN.{length, length-drop}
 use lib.ListN.{take, drop}
 use mathlib.Core.Bool.{true}

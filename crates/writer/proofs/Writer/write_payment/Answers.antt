@@ -15,7 +15,6 @@ use Rattle.writer.specs.Given.{records_in}
 use Rattle.writer.specs.Outcome.{cursor_behind}
 use Rattle.writer.specs.Refusals.{sum_rule, size, expected_in_payment, all_given}
 use Rattle.writer.specs.inner.Steps.{payment_rules, lines_with}
-use borrow.Author.Rules.{rules}
 use lib.ListN.{length, length-drop}
 use lib.ListN.{take, drop}
 use mathlib.Core.List.{List, ◌++◌, flatten}

@@ -7,7 +7,6 @@ use Rattle.layout.specs.declared.Record.TheVariants.{SegmentA, SegmentJ, Segment
 use Rattle.layout.specs.declared.shapes.Shape.{Shape}
 use Rattle.layout.specs.declared.shapes.Amount.{Amount}
 use Rattle.layout.specs.declared.shapes.Amount.TheVariants.{AmountOfA, AmountOfJ, AmountOfO}
-use borrow.Author.Rules.{rules}
 use Rattle.layout.specs.Table.{fields_of}
 use Rattle.layout.specs.Names.{before, index_of}
 use Rattle.writer.proofs.payments.amount_of.Goals as goal

@@ -1,5 +1,4 @@
 -- `writer::payments::cents_at` meets its contract. Assumes nothing.
-use borrow.Author.Rules.{rules}
 use Rattle.writer.proofs.payments.cents_at.Goals as goal
 
 pub returns-in-Is : goal.returns-in-Is

@@ -4,7 +4,6 @@ use Prim.Native.Nat.{◌+◌}
 use Rattle.answer.proofs.laws.Sums.{fits}
 use Rattle.checker.proofs.laws.Bounds.{bounded, cents-fit, closed_cents_fit}
 use Rattle.checker.specs.Totals.{cent_sum}
-use borrow.Author.Rules.{rules}
 use native.Mathlib.Omega.{arith}
 use Rattle.writer.proofs.payments.check_sum.Goals as goal
 

@@ -1,6 +1,5 @@
 -- `writer::payments::is_expected` meets its contract. Assumes nothing.
 use mathlib.Core.Path.{sym, ◌∙◌}
-use borrow.Author.Rules.{rules}
 use Rattle.writer.proofs.laws.Expected.{own_reading, no_reading, no_own}
 use Rattle.writer.proofs.Held.{or_none}
 use Rattle.writer.proofs.payments.is_expected.Goals as goal

@@ -1,6 +1,5 @@
 -- `writer::payments::is_z` meets its contract. Assumes nothing.
 use Rattle.writer.proofs.Held.{or_none}
-use borrow.Author.Rules.{rules}
 use mathlib.Core.Path.{◌∙◌}
 use Rattle.writer.proofs.payments.is_z.Goals as goal
 

@@ -1,10 +1,10 @@
 -- `writer::payments::put_payment` meets its contract: line behind line. Assumes nothing.
 use mathlib.Core.Path.{◌≡◌}
-use Prim.Native.Nat.{◌-◌, ◌≤◌, ◌<◌}
+use Prim.Native.Nat.{◌<◌}
 use native.Mathlib.Omega.{arith}
 use lib.ListN.{length}
 use Rattle.fields.specs.Values.{not_made}
-use Rattle.writer.proofs.Lent.{Over, over_first, over_next, line_room}
+use Rattle.writer.proofs.Lent.{over_first, over_next, line_room}
 use Rattle.writer.proofs.Trying.{right_at}
 use Rattle.writer.proofs.payments.put_payment.Goals as goal
 

@@ -1,10 +1,5 @@
-use mathlib.Core.Path.{◌≡◌}
-use Prim.Native.Nat.{◌-◌, ◌≤◌, ◌<◌}
-use native.Mathlib.Omega.{arith}
-use lib.ListN.{length}
-use Rattle.fields.specs.Values.{not_made}
-use Rattle.writer.proofs.Lent.{Over, over_first, over_next, line_room}
-use Rattle.writer.proofs.Trying.{right_at}
+use Prim.Native.Nat.{◌-◌, ◌≤◌}
+use Rattle.writer.proofs.Lent.{Over}
 use Rattle.writer.proofs.payments.put_payment.Given as goal
 
 abbrev pub invariant-loop-k : goal.invariant-loop-k

@@ -1,5 +1,4 @@
 -- `writer::payments::try_at` meets its contract. Assumes nothing.
-use borrow.Author.Rules.{rules}
 use Rattle.writer.proofs.payments.try_at.Goals as goal
 
 pub try_record-requires : goal.try_record-requires

@@ -1,13 +1,12 @@
 -- `writer::payments::try_payment` meets its contract: position by position. Assumes nothing.
 use mathlib.Core.Path.{refl}
-use Prim.Native.Nat.{◌-◌, ◌<◌}
+use Prim.Native.Nat.{◌<◌}
 use native.Mathlib.Omega.{arith}
 use lib.ListN.{length}
-use borrow.Author.Rules.{rules}
 use Rattle.writer.specs.Given.{records_in}
 use Rattle.writer.specs.inner.Steps.{nth_in, expected_at, Tries}
 use Rattle.writer.proofs.laws.Paying.{may_try}
-use Rattle.writer.proofs.Trying.{Going, going_first, going_stopped, going_on, gone_through}
+use Rattle.writer.proofs.Trying.{going_first, going_stopped, going_on, gone_through}
 use Rattle.writer.proofs.payments.try_payment.Goals as goal
 
 pub loop-k-init : goal.loop-k-init

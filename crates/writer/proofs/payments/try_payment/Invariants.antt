@@ -1,12 +1,5 @@
-use mathlib.Core.Path.{refl}
-use Prim.Native.Nat.{◌-◌, ◌<◌}
-use native.Mathlib.Omega.{arith}
-use lib.ListN.{length}
-use borrow.Author.Rules.{rules}
-use Rattle.writer.specs.Given.{records_in}
-use Rattle.writer.specs.inner.Steps.{nth_in, expected_at, Tries}
-use Rattle.writer.proofs.laws.Paying.{may_try}
-use Rattle.writer.proofs.Trying.{Going, going_first, going_stopped, going_on, gone_through}
+use Prim.Native.Nat.{◌-◌}
+use Rattle.writer.proofs.Trying.{Going}
 use Rattle.writer.proofs.payments.try_payment.Given as goal
 
 abbrev pub invariant-loop-k : goal.invariant-loop-k

@@ -1,5 +1,4 @@
 -- `writer::records::check` meets its contract. Assumes nothing.
-use borrow.Author.Rules.{rules}
 use Rattle.writer.proofs.records.check.Goals as goal
 
 pub returns-then-expected : goal.returns-then-expected

@@ -1,7 +1,6 @@
 -- `writer::records::line_of` meets its contract. Assumes nothing.
 use mathlib.Core.Path.{◌≡◌, ap, ◌∙◌}
-use borrow.Author.Rules.{rules}
-use lib.ListN.{length, replicate, length-map}
+use lib.ListN.{length, replicate}
 use Rattle.layout.proofs.laws.Bytes.{over_all}
 use Rattle.writer.proofs.Lent.{line_over}
 use Rattle.writer.proofs.records.line_of.Goals as goal

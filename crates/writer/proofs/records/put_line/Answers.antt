@@ -1,8 +1,7 @@
 -- `writer::records::put_line` meets its contract. Assumes nothing.
 use mathlib.Core.Path.{◌≡◌}
 use native.Mathlib.Omega.{arith}
-use borrow.Author.Rules.{rules}
-use lib.ListN.{length, length-map}
+use lib.ListN.{length}
 use Rattle.fields.specs.Values.{record_of}
 use Rattle.writer.proofs.Lent.{line-end}
 use Rattle.writer.proofs.Trying.{put_right}

@@ -1,7 +1,5 @@
 -- `writer::records::try_record` meets its contract: its own check, then the checker's step. Assumes nothing.
 use mathlib.Core.Path.{◌≡◌, ap, ◌∙◌}
-use borrow.Author.Rules.{rules}
-use lib.ListN.{length-map}
 use Rattle.fields.specs.Values.{made_of}
 use Rattle.fields.specs.declared.Fields.{Fields}
 use Rattle.filling.specs.Filling.{filled}

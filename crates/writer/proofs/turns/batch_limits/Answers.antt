@@ -1,7 +1,6 @@
 -- `writer::turns::batch_limits` meets its contract. Assumes nothing.
 use Rattle.answer.proofs.laws.Order.{ahead}
 use Rattle.writer.proofs.Held.{below}
-use borrow.Author.Rules.{rules}
 use mathlib.Core.Path.{◌≡◌, ◌∙◌}
 use Prim.Native.Nat.{◌+◌}
 use native.Mathlib.Omega.{arith}

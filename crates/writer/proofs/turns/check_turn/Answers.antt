@@ -1,6 +1,5 @@
 -- `writer::turns::check_turn` meets its contract. Assumes nothing.
 use Rattle.writer.proofs.Held.{held_sound}
-use borrow.Author.Rules.{rules}
 use borrow.Author.Tests.{not-true, not-false}
 use mathlib.Core.Path.{sym, ◌∙◌}
 use Rattle.writer.proofs.turns.check_turn.Goals as goal

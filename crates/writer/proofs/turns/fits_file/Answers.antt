@@ -2,7 +2,6 @@
 use Prim.Native.Nat.{◌+◌}
 use native.Mathlib.Omega.{arith}
 use Rattle.checker.specs.Totals.{record_count}
-use borrow.Author.Rules.{rules}
 use Rattle.answer.specs.Limits.{most_records}
 use Rattle.answer.proofs.laws.Sums.{capped_within}
 use Rattle.checker.specs.Totals.{record_count}

@@ -1,7 +1,6 @@
 -- `writer::turns::is_held` meets its contract. Assumes nothing.
 use Rattle.checker.proofs.laws.Bounds.{bounded, payments_fit, cents-fit, closed_cents_fit}
 use Rattle.writer.specs.Refusals.{held}
-use borrow.Author.Rules.{rules}
 use borrow.Author.Tests.{not-true, not-false}
 use mathlib.Core.Path.{◌≡◌, sym, ◌∙◌}
 use Rattle.checker.specs.Totals.{payment_count, cent_sum}

@@ -1,6 +1,5 @@
 -- `writer::turns::kind_given` meets its contract. Assumes nothing.
 use mathlib.Core.Path.{sym, ap, ap₂, ◌∙◌}
-use borrow.Author.Rules.{rules}
 use Rattle.digits.specs.declared.spelling.Number.{Number}
 use Rattle.layout.specs.Names.{before, index_of, name_of}
 use Rattle.layout.specs.Pairs.{pairs, batch_among}

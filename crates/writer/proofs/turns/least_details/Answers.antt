@@ -1,7 +1,6 @@
 -- `writer::turns::least_details` meets its contract. Assumes nothing.
 use mathlib.Core.Path.{◌∙◌}
 use native.Mathlib.Omega.{arith}
-use borrow.Author.Rules.{rules}
 use Rattle.checker.proofs.laws.Payments.{brief}
 use Rattle.writer.proofs.laws.KindGiven.{least_named, least_unnamed}
 use Rattle.writer.proofs.turns.least_details.Goals as goal

@@ -6,7 +6,6 @@ use Rattle.checker.specs.Line.{most_payments}
 use Prim.Native.Nat.{◌+◌}
 use native.Mathlib.Omega.{arith}
 use Rattle.writer.proofs.Held.{below}
-use borrow.Author.Rules.{rules}
 use mathlib.Core.Path.{◌∙◌}
 use Rattle.writer.proofs.turns.payment_limits.Goals as goal
 

@@ -1,5 +1,4 @@
 -- `writer::turns::turns_at` meets its contract. Assumes nothing.
-use borrow.Author.Rules.{rules}
 use Rattle.writer.proofs.turns.turns_at.Goals as goal
 
 pub returns-in-Start : goal.returns-in-Start

@@ -1,6 +1,5 @@
 -- `checker::totals::Tally::plus` meets its contract. Assumes nothing.
 use Rattle.answer.proofs.laws.Sums.{fits}
-use borrow.Author.Rules.{rules}
 use Rattle.checker.proofs.totals.Tally.plus.Goals as goal
 
 pub returns : goal.returns

@@ -1,5 +1,4 @@
 -- `checker::totals::Totals::none` meets its contract. Assumes nothing.
-use borrow.Author.Rules.{rules}
 use Rattle.checker.proofs.totals.Totals.none.Goals as goal
 
 pub returns : goal.returns

@@ -2,7 +2,6 @@
 use native.Mathlib.Omega.{arith}
 use Rattle.answer.proofs.laws.Sums.{fits}
 use Rattle.checker.specs.Totals.{add}
-use borrow.Author.Rules.{rules}
 use Rattle.checker.proofs.totals.Totals.plus.Goals as goal
 
 pub plus-requires-2 : goal.plus-requires-2

@@ -1,5 +1,4 @@
 -- `fields::writing::Made::none` meets its contract. Assumes nothing.
-use borrow.Author.Rules.{rules}
 use Rattle.fields.proofs.writing.Made.none.Goals as goal
 
 pub returns : goal.returns

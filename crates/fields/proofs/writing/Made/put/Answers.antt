@@ -1,5 +1,4 @@
 -- `fields::writing::Made::put` meets its contract. Assumes nothing.
-use borrow.Author.Rules.{rules}
 use Rattle.fields.proofs.Making.{roomy, put_there, put_nowhere}
 use Rattle.fields.proofs.writing.Made.put.Goals as goal
 

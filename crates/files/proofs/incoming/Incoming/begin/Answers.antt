@@ -1,6 +1,5 @@
 -- `files::incoming::Incoming::begin` meets its contract. Assumes nothing.
 use native.Mathlib.Nat.{sub-zero}
-use borrow.Author.Rules.{rules}
 use Rattle.files.proofs.Waiting.{joined_bytes, joined_room}
 use Rattle.files.proofs.incoming.Incoming.begin.Goals as goal
 

@@ -1,7 +1,6 @@
 -- `files::incoming::Incoming::conclude` meets its contract. Assumes nothing.
 use native.Mathlib.Nat.{sub-zero}
 use native.Mathlib.Omega.{arith}
-use borrow.Author.Rules.{rules}
 use Rattle.files.proofs.Waiting.{in_room, at_front}
 use Rattle.files.proofs.incoming.Incoming.conclude.Goals as goal
 

@@ -1,5 +1,4 @@
 -- `files::incoming::Incoming::end` meets its contract. Assumes nothing.
-use borrow.Author.Rules.{rules}
 use Rattle.files.proofs.incoming.Incoming.end.Goals as goal
 
 pub returns-in-Open : goal.returns-in-Open

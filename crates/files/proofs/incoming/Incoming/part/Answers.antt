@@ -1,6 +1,5 @@
 -- `files::incoming::Incoming::part` meets its contract. Assumes nothing.
 use mathlib.Core.Path.{sym, ◌∙◌}
-use borrow.Author.Rules.{rules}
 use borrow.Author.Tests.{not-true, not-false}
 use Rattle.files.proofs.Arriving.{not_taken, is_taken}
 use Rattle.files.proofs.incoming.Incoming.part.Goals as goal

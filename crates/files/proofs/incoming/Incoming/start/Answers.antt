@@ -1,5 +1,4 @@
 -- `files::incoming::Incoming::start` meets its contract. Assumes nothing.
-use borrow.Author.Rules.{rules}
 use Rattle.files.specs.Parts.{arrive}
 use Rattle.files.proofs.laws.Runs.{no_lines}
 use Rattle.files.proofs.incoming.Incoming.start.Goals as goal

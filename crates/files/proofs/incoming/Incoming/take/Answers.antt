@@ -1,7 +1,6 @@
 -- `files::incoming::Incoming::take` meets its contract. Assumes nothing.
 use mathlib.Core.Path.{◌∙◌}
 use native.Mathlib.Nat.{sub-zero}
-use borrow.Author.Rules.{rules}
 use Rattle.files.specs.Parts.{bytes_in}
 use Rattle.files.proofs.Arriving.{done, more}
 use Rattle.files.proofs.incoming.Incoming.take.Goals as goal

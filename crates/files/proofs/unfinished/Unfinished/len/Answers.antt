@@ -1,7 +1,7 @@
 -- `files::unfinished::Unfinished::len` meets its contract: there is room for a line. Assumes nothing.
 use mathlib.Core.Path.{◌≡◌, sym}
 use native.Mathlib.Omega.{arith}
-use lib.ListN.{length, length-map}
+use lib.ListN.{length}
 use Rattle.checker.specs.Line.{line_bytes}
 use Rattle.files.proofs.Waiting.{all_there, some_there}
 use Rattle.files.proofs.unfinished.Unfinished.len.Goals as goal

@@ -1,5 +1,4 @@
 -- `files::unfinished::Unfinished::share` meets its contract. Assumes nothing.
-use borrow.Author.Rules.{rules}
 use Rattle.files.proofs.Waiting.{no_share, share_lacked, share_all}
 use Rattle.files.proofs.unfinished.Unfinished.share.Goals as goal
 

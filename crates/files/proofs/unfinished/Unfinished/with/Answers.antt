@@ -1,8 +1,7 @@
 -- `files::unfinished::Unfinished::with` meets its contract. Assumes nothing.
 use mathlib.Core.Path.{◌≡◌}
 use native.Mathlib.Omega.{arith}
-use borrow.Author.Rules.{rules}
-use lib.ListN.{length, length-map}
+use lib.ListN.{length}
 use Rattle.checker.specs.Line.{line_bytes}
 use Rattle.files.proofs.Waiting.{copied}
 use Rattle.files.proofs.unfinished.Unfinished.with.Goals as goal

@@ -1,11 +1,7 @@
 -- `layout::fixed::Content::write` meets its contract: what is written, and what is left to write, give all of the content. Assumes nothing.
-use mathlib.Core.Path.{◌≡◌, refl, sym, ◌∙◌}
-use mathlib.Core.List.{◌++◌}
-use Prim.Native.Nat.{◌-◌, ◌≤◌}
+use mathlib.Core.Path.{refl, sym, ◌∙◌}
 use borrow.Author.Rules.{rules}
-use lib.ListN.{length, take, drop, length-set}
-use Rattle.answer.specs.Output.{over}
-use Rattle.layout.specs.inner.Lent.{content_of}
+use lib.ListN.{length, length-set}
 use Rattle.layout.proofs.laws.Bytes.{over_all, over_end_out}
 use Rattle.layout.proofs.laws.Contents.{length_tab}
 use Rattle.layout.proofs.Written.{written_more}

@@ -1,13 +1,9 @@
-use mathlib.Core.Path.{◌≡◌, refl, sym, ◌∙◌}
+use mathlib.Core.Path.{◌≡◌}
 use mathlib.Core.List.{◌++◌}
 use Prim.Native.Nat.{◌-◌, ◌≤◌}
-use borrow.Author.Rules.{rules}
-use lib.ListN.{length, take, drop, length-set}
+use lib.ListN.{length, take, drop}
 use Rattle.answer.specs.Output.{over}
 use Rattle.layout.specs.inner.Lent.{content_of}
-use Rattle.layout.proofs.laws.Bytes.{over_all, over_end_out}
-use Rattle.layout.proofs.laws.Contents.{length_tab}
-use Rattle.layout.proofs.Written.{written_more}
 use Rattle.layout.proofs.fixed.Content.write.Given as goal
 
 abbrev pub invariant-loop-i : goal.invariant-loop-i

@@ -1,5 +1,4 @@
 -- `writer::given::Payment::first_record` meets its contract. Assumes nothing.
-use borrow.Author.Rules.{rules}
 use Rattle.writer.proofs.given.Payment.first_record.Goals as goal
 
 pub returns-in-One : goal.returns-in-One

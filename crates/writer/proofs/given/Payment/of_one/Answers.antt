@@ -1,5 +1,4 @@
 -- `writer::given::Payment::of_one` meets its contract. Assumes nothing.
-use borrow.Author.Rules.{rules}
 use Rattle.writer.proofs.given.Payment.of_one.Goals as goal
 
 pub returns : goal.returns

@@ -1,5 +1,4 @@
 -- `writer::given::Payment::of_two` meets its contract. Assumes nothing.
-use borrow.Author.Rules.{rules}
 use Rattle.writer.proofs.given.Payment.of_two.Goals as goal
 
 pub returns : goal.returns

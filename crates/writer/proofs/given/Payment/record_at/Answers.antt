@@ -1,7 +1,6 @@
 -- `writer::given::Payment::record_at` meets its contract. Assumes nothing.
 use mathlib.Core.Path.{sym}
 use native.Mathlib.Omega.{arith}
-use borrow.Author.Rules.{rules}
 use Rattle.writer.proofs.laws.Given.{the_third}
 use Rattle.writer.proofs.given.Payment.record_at.Goals as goal
 
