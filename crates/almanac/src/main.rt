@@ -8,7 +8,7 @@
 ghost use Rattle.std.specs.Prelude.{◌≤◌};
 
 use calendar::Date;
-use libc::STDOUT_FILENO;
+use std::io;
 
 const DAYS_TRIED: u64 = 33;
 
@@ -31,11 +31,6 @@ const LAST_OF_DECEMBER: u64 = 31120000;
 
 const FIRST_OF_MARCH: u64 = 1030000;
 
-fn spaced(n: u64) {
-    io::write_all(STDOUT_FILENO, b" ");
-    io::print_decimal(STDOUT_FILENO, n);
-}
-
 fn is_date(ddmmaaaa: u64) -> bool {
     let mut text = [0u8; 8];
     digits::write_number(ddmmaaaa, &mut text);
@@ -52,46 +47,40 @@ fn dates_in(year: u64) -> u64
     requires { year ≤ 2200 }
 {
     let mut dates = 0;
-    let mut tried = 0;
-    while tried < DAYS_TRIED * MONTHS_TRIED {
+    for tried in 0..DAYS_TRIED * MONTHS_TRIED {
         let day = tried % DAYS_TRIED;
         let month = tried / DAYS_TRIED;
         if is_date(day * 1000000 + month * 10000 + year) {
             dates += 1;
         }
-        tried += 1;
     }
     dates
 }
 
 fn times() -> u64 {
     let mut times = 0;
-    let mut tried = 0;
-    while tried < TIMES_TRIED {
+    for tried in 0..TIMES_TRIED {
         if is_time(tried) {
             times += 1;
         }
-        tried += 1;
     }
     times
 }
 
-fn print_year(year: u64)
+fn print_year(rt: &impl Print, year: u64) -> io::Result<()>
     requires { year ≤ 2200 }
 {
-    io::print_decimal(STDOUT_FILENO, year);
-    spaced(dates_in(year));
-    spaced(Date::of(LAST_OF_DECEMBER + year).day_number());
-    spaced(Date::of(FIRST_OF_MARCH + year).due_factor());
-    io::write_all(STDOUT_FILENO, b"\n");
+    let dates = dates_in(year);
+    let days = Date::of(LAST_OF_DECEMBER + year).day_number();
+    let factor = Date::of(FIRST_OF_MARCH + year).due_factor();
+    println!(rt; "{year} {dates} {days} {factor}")
 }
 
-fn print_years() {
-    let mut year = FIRST_TRIED;
-    while year <= LAST_TRIED {
-        print_year(year);
-        year += 1;
+fn print_years(rt: &impl Print) -> io::Result<()> {
+    for year in FIRST_TRIED..=LAST_TRIED {
+        print_year(rt, year)?;
     }
+    Ok(())
 }
 
 // Whether a date's factor is the next behind the last date's: one more, or still none.
@@ -102,44 +91,39 @@ fn goes_on(last: u64, factor: u64) -> bool {
     factor - 1 == last
 }
 
-fn print_turn(date: Date, last: u64, factor: u64) {
-    io::print_decimal(STDOUT_FILENO, date.day);
-    spaced(date.month);
-    spaced(date.year);
-    spaced(last);
-    spaced(factor);
-    io::write_all(STDOUT_FILENO, b"\n");
+fn print_turn(rt: &impl Print, date: Date, last: u64, factor: u64) -> io::Result<()> {
+    let Date { day, month, year } = date;
+    println!(rt; "{day} {month} {year} {last} {factor}")
 }
 
 // The factor of this date, which is printed if it is not the next; the last one's if there is no such date.
-fn factor_behind(last: u64, date: Date) -> u64 {
+fn factor_behind(rt: &impl Print, last: u64, date: Date) -> io::Result<u64> {
     if !date.exists() {
-        return last;
+        return Ok(last);
     }
     let factor = date.due_factor();
     if !goes_on(last, factor) {
-        print_turn(date, last, factor);
+        print_turn(rt, date, last, factor)?;
     }
-    factor
+    Ok(factor)
 }
 
-fn print_turns() {
+fn print_turns(rt: &impl Print) -> io::Result<()> {
     let mut last = 0;
-    let mut tried = 0;
-    while tried < DATES_TRIED {
+    for tried in 0..DATES_TRIED {
         let date = Date {
             day: 1 + tried % LONGEST_MONTH,
             month: 1 + tried / LONGEST_MONTH % MONTHS,
             year: FIRST_TRIED + tried / LONGEST_MONTH / MONTHS,
         };
-        last = factor_behind(last, date);
-        tried += 1;
+        last = factor_behind(rt, last, date)?;
     }
+    Ok(())
 }
 
-fn main() {
-    print_years();
-    print_turns();
-    io::print_decimal(STDOUT_FILENO, times());
-    io::write_all(STDOUT_FILENO, b"\n");
+fn main(rt: HostRuntime) -> io::Result<()> {
+    print_years(&rt)?;
+    print_turns(&rt)?;
+    let times = times();
+    println!(rt; "{times}")
 }

@@ -7,47 +7,37 @@ mod input;
 
 use files::Incoming;
 use input::{BUFFER_BYTES, Input};
-use libc::STDERR_FILENO;
 use reply::Line;
+use std::io;
+use std::io::Read;
 
 // A read error never looks like an answer.
-fn unread() {
-    io::write_all(STDERR_FILENO, b"cnab240: standard input can't be read\n");
+fn unread(rt: &impl Eprint) -> io::Result<()> {
+    eprintln!(rt; "cnab240: standard input can't be read")
 }
 
 // Reads to the end of the input, or up to a refusal. A proved loop has to end, and nothing says that
-// the input does; so it counts its turns down, from a number that no run uses up.
-fn check(buf: &mut [u8]) {
+// the input does; so it counts its turns, up to a number that no run uses up.
+fn check(rt: &(impl Print + Eprint), source: &mut impl Read, buf: &mut [u8]) -> io::Result<()> {
     let mut state = Incoming::start();
-    let mut turns = u64::MAX;
-    while 0 < turns {
-        match input::read(buf) {
+    for _ in 0..u64::MAX {
+        match input::read(source, buf) {
             Input::Part(bytes) => {
                 let taken = state.part(&buf[..bytes]);
                 let answer = taken.answer;
                 if !answer.is_accepted() {
-                    Line::of_answer(answer).print();
-                    return;
+                    return Line::of_answer(answer).print(rt);
                 }
-                let next = taken.state;
-                state = next;
+                state = taken.state;
             }
-            Input::Ended => {
-                let finished = state.end();
-                let outcome = finished.outcome;
-                Line::of_outcome(outcome).print();
-                return;
-            }
-            Input::Failed => {
-                unread();
-                return;
-            }
+            Input::Ended => return Line::of_outcome(state.end().outcome).print(rt),
+            Input::Failed => return unread(rt),
         }
-        turns -= 1;
     }
+    Ok(())
 }
 
-fn main() {
+fn main(rt: HostRuntime) -> io::Result<()> {
     let mut buf = [0; BUFFER_BYTES];
-    check(&mut buf);
+    check(&rt, &mut rt.stdin(), &mut buf)
 }

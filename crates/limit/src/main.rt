@@ -12,6 +12,7 @@ use fields::Fields;
 use layout::Record;
 use records::{LIVE, WITHDRAWN};
 use reply::Line;
+use std::io;
 use writer::{Payment, Writer, Written};
 
 // As many payments as a batch may have, of two records each; the headers and trailers of batch and
@@ -37,75 +38,92 @@ const EMPTY_PAYMENTS: u64 = 8999;
 const NO_CENTS: Cents = Cents(0);
 
 // The state behind a call. A refusal is printed; it left state and output as they were.
-fn state_after(written: Written) -> Writer {
+fn state_after(rt: &impl Print, written: Written) -> io::Result<Writer> {
     let answer = written.answer;
     if !answer.is_accepted() {
-        Line::of_answer(answer).print();
+        Line::of_answer(answer).print(rt)?;
     }
-    written.state
+    Ok(written.state)
 }
 
-fn pay(state: Writer, movement: u64, cents: Cents, out: &mut [u8]) -> Writer {
+fn pay(
+    rt: &impl Print,
+    state: Writer,
+    movement: u64,
+    cents: Cents,
+    out: &mut [u8],
+) -> io::Result<Writer> {
     let payment = Payment::of_two(records::credit(movement, cents), records::payee());
-    state_after(state.payment(payment, out))
+    state_after(rt, state.payment(payment, out))
 }
 
-fn pay_often(state: Writer, times: u64, movement: u64, cents: Cents, out: &mut [u8]) -> Writer {
+fn pay_often(
+    rt: &impl Print,
+    state: Writer,
+    times: u64,
+    movement: u64,
+    cents: Cents,
+    out: &mut [u8],
+) -> io::Result<Writer> {
     let mut state = state;
-    let mut paid = 0;
-    while paid < times {
-        let next = pay(state, movement, cents, out);
-        state = next;
-        paid += 1;
+    for _ in 0..times {
+        state = pay(rt, state, movement, cents, out)?;
     }
-    state
+    Ok(state)
 }
 
-fn open(out: &mut [u8]) -> Writer {
-    let state = state_after(Writer::start().open_file(records::file_header(), out));
-    state_after(state.open_batch(records::batch_header(), out))
+fn open(rt: &impl Print, out: &mut [u8]) -> io::Result<Writer> {
+    let state = state_after(rt, Writer::start().open_file(records::file_header(), out))?;
+    state_after(rt, state.open_batch(records::batch_header(), out))
 }
 
 // A live payment, and a withdrawn one.
-fn pay_either(state: Writer, cents: Cents, out: &mut [u8]) -> Writer {
-    let state = pay(state, LIVE, cents, out);
-    pay(state, WITHDRAWN, cents, out)
+fn pay_either(rt: &impl Print, state: Writer, cents: Cents, out: &mut [u8]) -> io::Result<Writer> {
+    let state = pay(rt, state, LIVE, cents, out)?;
+    pay(rt, state, WITHDRAWN, cents, out)
 }
 
-fn pay_large(state: Writer, out: &mut [u8]) -> Writer {
-    let state = pay_often(state, LARGE_PAYMENTS, LIVE, MOST_CENTS, out);
-    pay_often(state, LARGE_PAYMENTS, WITHDRAWN, MOST_CENTS, out)
+fn pay_large(rt: &impl Print, state: Writer, out: &mut [u8]) -> io::Result<Writer> {
+    let state = pay_often(rt, state, LARGE_PAYMENTS, LIVE, MOST_CENTS, out)?;
+    pay_often(rt, state, LARGE_PAYMENTS, WITHDRAWN, MOST_CENTS, out)
 }
 
-fn pay_to_the_cent(state: Writer, out: &mut [u8]) -> Writer {
-    let state = pay_large(state, out);
-    let state = pay_either(state, TOO_MANY_CENTS, out);
-    pay(state, LIVE, LAST_CENTS, out)
+fn pay_to_the_cent(rt: &impl Print, state: Writer, out: &mut [u8]) -> io::Result<Writer> {
+    let state = pay_large(rt, state, out)?;
+    let state = pay_either(rt, state, TOO_MANY_CENTS, out)?;
+    pay(rt, state, LIVE, LAST_CENTS, out)
 }
 
-fn pay_to_the_last(state: Writer, out: &mut [u8]) -> Writer {
-    let state = pay_often(state, EMPTY_PAYMENTS, WITHDRAWN, NO_CENTS, out);
-    pay_either(state, NO_CENTS, out)
+fn pay_to_the_last(rt: &impl Print, state: Writer, out: &mut [u8]) -> io::Result<Writer> {
+    let state = pay_often(rt, state, EMPTY_PAYMENTS, WITHDRAWN, NO_CENTS, out)?;
+    pay_either(rt, state, NO_CENTS, out)
 }
 
-fn close(state: Writer, out: &mut [u8]) {
-    let state = state_after(state.close_batch(Fields::blank(Record::BatchTrailer), out));
-    state_after(state.close_file(Fields::blank(Record::FileTrailer), out));
+fn close(rt: &impl Print, state: Writer, out: &mut [u8]) -> io::Result<()> {
+    let state = state_after(
+        rt,
+        state.close_batch(Fields::blank(Record::BatchTrailer), out),
+    )?;
+    state_after(
+        rt,
+        state.close_file(Fields::blank(Record::FileTrailer), out),
+    )?;
+    Ok(())
 }
 
-fn write_file(out: &mut [u8]) {
-    let state = open(out);
-    let state = pay_to_the_cent(state, out);
-    let state = pay_to_the_last(state, out);
-    close(state, out);
+fn write_file(rt: &impl Print, out: &mut [u8]) -> io::Result<()> {
+    let state = open(rt, out)?;
+    let state = pay_to_the_cent(rt, state, out)?;
+    let state = pay_to_the_last(rt, state, out)?;
+    close(rt, state, out)
 }
 
-fn write_and_read(file: &mut [u8]) {
-    write_file(file);
-    Line::of_outcome(files::check_file(file)).print();
+fn write_and_read(rt: &impl Print, file: &mut [u8]) -> io::Result<()> {
+    write_file(rt, file)?;
+    Line::of_outcome(files::check_file(file)).print(rt)
 }
 
-fn main() {
+fn main(rt: HostRuntime) -> io::Result<()> {
     let mut file = [0u8; FILE_BYTES];
-    write_and_read(&mut file);
+    write_and_read(&rt, &mut file)
 }

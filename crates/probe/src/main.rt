@@ -34,8 +34,9 @@ ghost use Rattle.std.specs.Prelude.{◌≡◌, length};
 ghost use Rattle.probe.specs.inner.Sizes.{most_announced, most_bytes};
 
 use boleto::collection;
-use header::Op;
-use libc::STDIN_FILENO;
+use header::{Header, Op};
+use std::io;
+use std::io::{ErrorKind, Read};
 
 // The longest payload that a header can announce, and the most that a payload and output memory may
 // have.
@@ -49,61 +50,77 @@ const HEADER_BYTES: usize = 16;
 const UNTOUCHED: u8 = 170;
 
 fn fill(out: &mut [u8], byte: u8) {
-    let mut i = 0;
-    while i < out.len() {
-        out[i] = byte;
-        i += 1;
+    for place in out.iter_mut() {
+        *place = byte;
     }
 }
 
 // Makes the call, and writes its answer and the output memory.
-fn call(op: Op, payload: &[u8], out: &mut [u8]) {
+fn call(rt: &impl Print, op: Op, payload: &[u8], out: &mut [u8]) -> io::Result<()> {
     fill(out, UNTOUCHED);
     match op {
-        Op::BarcodeToLine => print::memory(boleto::barcode_to_line(payload, out), out),
-        Op::LineToBarcode => print::memory(boleto::line_to_barcode(payload, out), out),
-        Op::CodeToLine => print::memory(collection::code_to_line(payload, out), out),
-        Op::LineToCode => print::memory(collection::line_to_code(payload, out), out),
-        Op::ReadRecord(which, dir) => records::read(payload, which, dir),
-        Op::WriteRecord(which, dir) => records::write(payload, which, dir, out),
-        Op::CheckFile => whole::check(payload),
-        Op::StepLines => whole::step_lines(payload),
-        Op::TakeParts => parts::take(payload),
-        Op::Script => scripts::run(payload, out),
-        Op::Malformed => print::malformed(),
+        Op::BarcodeToLine => print::memory(rt, boleto::barcode_to_line(payload, out), out),
+        Op::LineToBarcode => print::memory(rt, boleto::line_to_barcode(payload, out), out),
+        Op::CodeToLine => print::memory(rt, collection::code_to_line(payload, out), out),
+        Op::LineToCode => print::memory(rt, collection::line_to_code(payload, out), out),
+        Op::ReadRecord(which, dir) => records::read(rt, payload, which, dir),
+        Op::WriteRecord(which, dir) => records::write(rt, payload, which, dir, out),
+        Op::CheckFile => whole::check(rt, payload),
+        Op::StepLines => whole::step_lines(rt, payload),
+        Op::TakeParts => parts::take(rt, payload),
+        Op::Script => scripts::run(rt, payload, out),
+        Op::Malformed => print::malformed(rt),
+    }
+}
+
+// Fills the buffer; false where the input ends before it is full.
+fn filled(source: &mut impl Read, buf: &mut [u8]) -> io::Result<bool> {
+    match source.read_exact(buf) {
+        Ok(()) => Ok(true),
+        Err(e) if e.kind() == ErrorKind::UnexpectedEof => Ok(false),
+        Err(e) => Err(e),
     }
 }
 
 // Answers one request; false where the input ends before it is complete.
-fn serve(payload: &mut [u8], out: &mut [u8]) -> bool
+fn serve(
+    rt: &impl Print,
+    source: &mut impl Read,
+    payload: &mut [u8],
+    out: &mut [u8],
+) -> io::Result<bool>
     requires payload_len { length payload.old ≡ most_announced }
     requires out_len { length out.old ≡ most_bytes }
 {
     let mut head = [0u8; HEADER_BYTES];
-    if io::read_full(STDIN_FILENO, &mut head) < HEADER_BYTES {
-        return false;
+    if !filled(source, &mut head)? {
+        return Ok(false);
     }
-    let request = header::parse(&head);
-    let op = request.op;
-    let length = request.length;
-    let room = request.room;
-    if io::read_full(STDIN_FILENO, &mut payload[..length]) < length {
-        return false;
+    let Header { op, room, length } = header::parse(&head);
+    if !filled(source, &mut payload[..length])? {
+        return Ok(false);
     }
-    call(op, &payload[..length], &mut out[..room]);
-    true
+    call(rt, op, &payload[..length], &mut out[..room])?;
+    Ok(true)
 }
 
-// A proved loop has to end, and nothing says that the input does. So it counts its turns down, from
-// a number that no run uses up.
-fn serve_all(payload: &mut [u8], out: &mut [u8])
+// A proved loop has to end, and nothing says that the input does. So it counts its turns, up to a
+// number that no run uses up.
+fn serve_all(
+    rt: &impl Print,
+    source: &mut impl Read,
+    payload: &mut [u8],
+    out: &mut [u8],
+) -> io::Result<()>
     requires payload_len { length payload.old ≡ most_announced }
     requires out_len { length out.old ≡ most_bytes }
 {
-    let mut turns = u64::MAX;
-    while 0 < turns && serve(payload, out) {
-        turns -= 1;
+    for _ in 0..u64::MAX {
+        if !serve(rt, source, payload, out)? {
+            break;
+        }
     }
+    Ok(())
 }
 
 fn payload_memory() -> [u8; MOST_ANNOUNCED]
@@ -118,8 +135,8 @@ fn output_memory() -> [u8; MOST_BYTES]
     [0; MOST_BYTES]
 }
 
-fn main() {
+fn main(rt: HostRuntime) -> io::Result<()> {
     let mut payload = payload_memory();
     let mut out = output_memory();
-    serve_all(&mut payload, &mut out);
+    serve_all(&rt, &mut rt.stdin(), &mut payload, &mut out)
 }

@@ -4,6 +4,7 @@ ghost use Rattle.std.specs.Prelude.{◌≤◌, ◌<◌, length};
 use super::whole::Call;
 use super::{print, whole};
 use files::Incoming;
+use std::io;
 
 // What a step begins with: a part's call follows, or nothing does.
 const PART: u8 = b'+';
@@ -43,25 +44,23 @@ fn are_steps(payload: &[u8]) -> bool {
 }
 
 // Makes a call, and prints its answer.
-fn take_part(state: Incoming, part: &[u8]) -> Incoming {
+fn take_part(rt: &impl Print, state: Incoming, part: &[u8]) -> io::Result<Incoming> {
     let taken = state.part(part);
-    let answer = taken.answer;
-    print::line(answer);
-    taken.state
+    print::line(rt, taken.answer)?;
+    Ok(taken.state)
 }
 
-fn declare_end(state: Incoming) -> Incoming {
+fn declare_end(rt: &impl Print, state: Incoming) -> io::Result<Incoming> {
     let finished = state.end();
-    let outcome = finished.outcome;
-    print::outcome(outcome);
-    finished.state
+    print::outcome(rt, finished.outcome)?;
+    Ok(finished.state)
 }
 
-fn make_step(state: Incoming, letter: u8, part: &[u8]) -> Incoming {
+fn make_step(rt: &impl Print, state: Incoming, letter: u8, part: &[u8]) -> io::Result<Incoming> {
     if letter == END {
-        declare_end(state)
+        declare_end(rt, state)
     } else {
-        take_part(state, part)
+        take_part(rt, state, part)
     }
 }
 
@@ -72,25 +71,22 @@ fn accepted_lines(state: Incoming) -> u64 {
 }
 
 // Calls go on behind a refusal, and behind the end.
-fn make_steps(payload: &[u8]) {
+fn make_steps(rt: &impl Print, payload: &[u8]) -> io::Result<()> {
     let mut state = Incoming::start();
     let mut at = 0;
     while at < payload.len() {
         let step = step_at(payload, at);
-        let start = step.start;
-        let end = step.end;
-        let next = make_step(state, payload[at], &payload[start..end]);
-        state = next;
-        at = end;
+        state = make_step(rt, state, payload[at], &payload[step.start..step.end])?;
+        at = step.end;
     }
-    print::lines(accepted_lines(state));
+    print::lines(rt, accepted_lines(state))
 }
 
 // Of a payload that is no list of steps none is made.
-pub(crate) fn take(payload: &[u8]) {
+pub(crate) fn take(rt: &impl Print, payload: &[u8]) -> io::Result<()> {
     if are_steps(payload) {
-        make_steps(payload);
+        make_steps(rt, payload)
     } else {
-        print::malformed();
+        print::malformed(rt)
     }
 }

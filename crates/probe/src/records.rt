@@ -7,6 +7,7 @@ use digits::Number;
 use fields::Fields;
 use layout::names::Name;
 use layout::{Direction, RECORD_BYTES, Record};
+use std::io;
 
 // As many numbers as fields may have.
 pub(crate) const MOST_NUMBERS: usize = 32;
@@ -48,14 +49,7 @@ fn number_of(text: &[u8]) -> Number
 }
 
 fn is_blank(text: &[u8]) -> bool {
-    let mut i = 0;
-    while i < text.len() {
-        if text[i] != layout::BLANK {
-            return false;
-        }
-        i += 1;
-    }
-    true
+    text.iter().all(|byte| *byte == layout::BLANK)
 }
 
 // Whether a number is said to be not given, and may be.
@@ -98,8 +92,7 @@ pub(crate) fn fields_of(said: &[u8], which: Record, many: usize) -> Given
         given: [true; MOST_NUMBERS],
         text,
     };
-    let mut i = 0;
-    while i < many {
+    for i in 0..many {
         let start = i * NUMBER_DIGITS;
         let end = start + NUMBER_DIGITS;
         let part = &said[start..end];
@@ -114,7 +107,6 @@ pub(crate) fn fields_of(said: &[u8], which: Record, many: usize) -> Given
                 fields = fields.not_given(Name(which, i));
             }
         }
-        i += 1;
     }
     Given {
         right: true,
@@ -123,49 +115,55 @@ pub(crate) fn fields_of(said: &[u8], which: Record, many: usize) -> Given
 }
 
 // A number, or that it is not given.
-fn print_number(m: Number) {
+fn print_number(rt: &impl Print, m: Number) -> io::Result<()> {
     match m {
-        Number::Is(n) => reply::spaced(n),
-        Number::Not => print::bytes(b" _"),
+        Number::Is(n) => reply::spaced(rt, n),
+        Number::Not => print::bytes(rt, b" _"),
     }
 }
 
-fn print_fields(fields: Fields) {
+fn print_fields(rt: &impl Print, fields: Fields) -> io::Result<()> {
     let which = fields.which;
-    let many = count(which);
-    let mut i = 0;
-    while i < many {
+    for i in 0..count(which) {
         if fields::is_number(which, i) {
-            print_number(fields.number_at(Name(which, i)));
+            print_number(rt, fields.number_at(Name(which, i)))?;
         } else {
-            print::bytes(b" -");
+            print::bytes(rt, b" -")?;
         }
-        i += 1;
     }
+    Ok(())
 }
 
-pub(crate) fn read(payload: &[u8], which: Record, dir: Direction) {
+pub(crate) fn read(
+    rt: &impl Print,
+    payload: &[u8],
+    which: Record,
+    dir: Direction,
+) -> io::Result<()> {
     let record = fields::read_record(payload, which, dir);
     let answer = record.answer;
     if !answer.is_accepted() {
-        print::line(answer);
-        return;
+        return print::line(rt, answer);
     }
     let fields = record.fields;
-    print::bytes(b"OK");
-    print_fields(fields);
-    print::bytes(b"\n");
-    let text = fields.text;
-    print::bytes(&text);
-    print::bytes(b"\n");
+    print::bytes(rt, b"OK")?;
+    print_fields(rt, fields)?;
+    print::bytes(rt, b"\n")?;
+    print::bytes(rt, &fields.text)?;
+    print::bytes(rt, b"\n")
 }
 
-pub(crate) fn write(payload: &[u8], which: Record, dir: Direction, out: &mut [u8]) {
+pub(crate) fn write(
+    rt: &impl Print,
+    payload: &[u8],
+    which: Record,
+    dir: Direction,
+    out: &mut [u8],
+) -> io::Result<()> {
     let asked = fields_of(payload, which, count(which));
     if asked.right {
-        let fields = asked.fields;
-        print::memory(fields::write_record(fields, dir, out), out);
+        print::memory(rt, fields::write_record(asked.fields, dir, out), out)
     } else {
-        print::malformed();
+        print::malformed(rt)
     }
 }

@@ -11,6 +11,7 @@ use digits::Number;
 use fields::Fields;
 use files::Outcome;
 use layout::{RECORD_BYTES, Record};
+use std::io;
 use writer::{Payment, Writer, Written};
 
 // A letter and, of a call, the count of its records. No step is shorter.
@@ -199,12 +200,10 @@ fn record_at(call: &[u8], index: usize) -> Given
 fn are_records(call: &[u8], count: usize) -> bool
     requires { count ≤ most_records }
 {
-    let mut i = 0;
-    while i < count {
+    for i in 0..count {
         if !record_at(call, i).right {
             return false;
         }
-        i += 1;
     }
     true
 }
@@ -296,19 +295,19 @@ fn make_call(state: Writer, call: Call, bytes: &[u8], out: &mut [u8]) -> Written
 }
 
 // A closed file's totals stand in the line.
-fn print_closed(state: Writer, answer: Answer) {
+fn print_closed(rt: &impl Print, state: Writer, answer: Answer) -> io::Result<()> {
     if answer.is_accepted() {
-        print::outcome(Outcome::Accepted(state.checker().closed()));
+        print::outcome(rt, Outcome::Accepted(state.checker().closed()))
     } else {
-        print::line(answer);
+        print::line(rt, answer)
     }
 }
 
-fn print_answer(call: Call, state: Writer, answer: Answer) {
+fn print_answer(rt: &impl Print, call: Call, state: Writer, answer: Answer) -> io::Result<()> {
     if let Call::CloseFile = call {
-        print_closed(state, answer);
+        print_closed(rt, state, answer)
     } else {
-        print::line(answer);
+        print::line(rt, answer)
     }
 }
 
@@ -319,33 +318,44 @@ fn smaller(a: usize, b: usize) -> usize
 }
 
 // Makes a call, and prints its answer.
-fn answer_call(state: Writer, call: Call, bytes: &[u8], lent: usize, out: &mut [u8]) -> Writer {
+fn answer_call(
+    rt: &impl Print,
+    state: Writer,
+    call: Call,
+    bytes: &[u8],
+    lent: usize,
+    out: &mut [u8],
+) -> io::Result<Writer> {
     let end = smaller(lent, out.len());
     let written = make_call(state, call, bytes, &mut out[..end]);
     let state = written.state;
-    let answer = written.answer;
-    print_answer(call, state, answer);
-    state
+    print_answer(rt, call, state, written.answer)?;
+    Ok(state)
 }
 
-fn make_step(reached: Reached, step: Step, bytes: &[u8], out: &mut [u8]) -> Reached {
-    let state = reached.state;
-    let lent = reached.lent;
+fn make_step(
+    rt: &impl Print,
+    reached: Reached,
+    step: Step,
+    bytes: &[u8],
+    out: &mut [u8],
+) -> io::Result<Reached> {
+    let Reached { state, lent } = reached;
     match step {
         Step::Call(call) => {
-            let state = answer_call(state, call, bytes, lent, out);
-            Reached { state, lent }
+            let state = answer_call(rt, state, call, bytes, lent, out)?;
+            Ok(Reached { state, lent })
         }
-        Step::Lend(lent) => Reached { state, lent },
+        Step::Lend(lent) => Ok(Reached { state, lent }),
         Step::Overwrite(byte) => {
             fill(out, byte);
-            reached
+            Ok(reached)
         }
-        Step::Unknown => reached,
+        Step::Unknown => Ok(reached),
     }
 }
 
-fn make_steps(payload: &[u8], out: &mut [u8]) {
+fn make_steps(rt: &impl Print, payload: &[u8], out: &mut [u8]) -> io::Result<()> {
     let state = Writer::start();
     let mut reached = Reached {
         state,
@@ -354,21 +364,19 @@ fn make_steps(payload: &[u8], out: &mut [u8]) {
     let mut at = 0;
     while at < payload.len() {
         let found = step_at(payload, at);
-        let step = found.step;
-        let end = found.end;
-        let next = make_step(reached, step, &payload[at..end], out);
-        reached = next;
-        at = end;
+        reached = make_step(rt, reached, found.step, &payload[at..found.end], out)?;
+        at = found.end;
     }
+    Ok(())
 }
 
 // Of a payload that is no script nothing is done.
-pub(crate) fn run(payload: &[u8], out: &mut [u8]) {
+pub(crate) fn run(rt: &impl Print, payload: &[u8], out: &mut [u8]) -> io::Result<()> {
     if is_script(payload) {
-        make_steps(payload, out);
-        print::bytes(out);
-        print::bytes(b"\n");
+        make_steps(rt, payload, out)?;
+        print::bytes(rt, out)?;
+        print::bytes(rt, b"\n")
     } else {
-        print::malformed();
+        print::malformed(rt)
     }
 }

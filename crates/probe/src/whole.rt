@@ -5,6 +5,7 @@ use super::header::DIGITS;
 use super::{header, print};
 use checker::Checker;
 use digits::Number;
+use std::io;
 
 // Where the bytes of a call stand in the payload; not right where it has no such call.
 #[derive(Clone, Copy)]
@@ -14,8 +15,8 @@ pub(crate) struct Call {
     pub(crate) end: usize,
 }
 
-pub(crate) fn check(payload: &[u8]) {
-    print::outcome(files::check_file(payload));
+pub(crate) fn check(rt: &impl Print, payload: &[u8]) -> io::Result<()> {
+    print::outcome(rt, files::check_file(payload))
 }
 
 pub(crate) fn no_call(payload: &[u8]) -> Call
@@ -63,28 +64,24 @@ fn are_calls(payload: &[u8]) -> bool {
     true
 }
 
-fn make_calls(payload: &[u8]) {
+fn make_calls(rt: &impl Print, payload: &[u8]) -> io::Result<()> {
     let mut state = Checker::start();
     let mut at = 0;
     while at < payload.len() {
         let call = call_at(payload, at);
-        let start = call.start;
-        let end = call.end;
-        let stepped = state.step(&payload[start..end]);
-        let answer = stepped.answer;
-        print::line(answer);
-        let next = stepped.state;
-        state = next;
-        at = end;
+        let stepped = state.step(&payload[call.start..call.end]);
+        print::line(rt, stepped.answer)?;
+        state = stepped.state;
+        at = call.end;
     }
-    print::outcome(files::end(state));
+    print::outcome(rt, files::end(state))
 }
 
 // A payload that is no list of calls makes none.
-pub(crate) fn step_lines(payload: &[u8]) {
+pub(crate) fn step_lines(rt: &impl Print, payload: &[u8]) -> io::Result<()> {
     if are_calls(payload) {
-        make_calls(payload);
+        make_calls(rt, payload)
     } else {
-        print::malformed();
+        print::malformed(rt)
     }
 }

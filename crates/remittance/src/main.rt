@@ -10,6 +10,7 @@ use checker::LINE_BYTES;
 use fields::Fields;
 use layout::Record;
 use reply::Line;
+use std::io;
 use writer::{Payment, Writer, Written};
 
 // The headers and trailers of the file and of three batches, two payments of two records, and one of
@@ -63,13 +64,12 @@ fn write_file(out: &mut [u8]) -> Written {
     state.close_file(Fields::blank(Record::FileTrailer), out)
 }
 
-fn main() {
+fn main(rt: HostRuntime) -> io::Result<()> {
     let mut file = [0u8; FILE_BYTES];
-    let written = write_file(&mut file);
-    let answer = written.answer;
+    let answer = write_file(&mut file).answer;
     if answer.is_accepted() {
-        Line::of_outcome(files::check_file(&file)).print();
+        Line::of_outcome(files::check_file(&file)).print(&rt)
     } else {
-        Line::of_answer(answer).print();
+        Line::of_answer(answer).print(&rt)
     }
 }

@@ -9,7 +9,7 @@ ghost use Rattle.reply.specs.Lines.{refusal_line, answer_line, totals_line, outc
 use answer::{Answer, RecordCount, Refusal};
 use checker::{Live, Withdrawn};
 use files::Outcome;
-use libc::STDOUT_FILENO;
+use std::io;
 
 // The most numbers that a line has: batches, records, live payments and their cents, withdrawn
 // payments and their cents.
@@ -80,27 +80,16 @@ impl Line {
     }
 
     // Prints it on standard output, with LF.
-    pub fn print(self) {
-        let numbers = self.numbers;
-        let count = self.count;
-        if self.accepted {
-            io::write_all(STDOUT_FILENO, b"OK");
-        } else {
-            io::write_all(STDOUT_FILENO, b"NO");
+    pub fn print(self, rt: &impl Print) -> io::Result<()> {
+        rt.print(if self.accepted { "OK" } else { "NO" })?;
+        for number in self.numbers.iter().take(self.count) {
+            spaced(rt, *number)?;
         }
-        let mut i = 0;
-        while i < MOST_NUMBERS {
-            if i < count {
-                spaced(numbers[i]);
-            }
-            i += 1;
-        }
-        io::write_all(STDOUT_FILENO, b"\n");
+        rt.print('\n')
     }
 }
 
 // Prints a space and a number.
-pub fn spaced(n: u64) {
-    io::write_all(STDOUT_FILENO, b" ");
-    io::print_decimal(STDOUT_FILENO, n);
+pub fn spaced(rt: &impl Print, n: u64) -> io::Result<()> {
+    print!(rt; " {n}")
 }
