@@ -5,17 +5,17 @@ use mathlib.Core.List.{List, [], ◌∷◌, ◌++◌, append-nil}
 use Prim.Native.Nat.{ℕ, ◌≤◌}
 use borrow.Author.Tests.{leb-true}
 use lib.ListN.{length}
-use Rattle.answer.specs.Rules.{Rule, rules_on_line, first_broken, AllKept, and_then, on_line, refused_as}
+use Rattle.answer.specs.Rules.{no_line, Rule, rules_on_line, first_broken, AllKept, and_then, on_line, refused_as}
 use Rattle.answer.specs.Output.{room}
 use Rattle.answer.specs.declared.LineNo.{LineNo}
 use Rattle.answer.specs.declared.Refusal.{Refusal}
 use Rattle.answer.specs.declared.Answer.{Answer}
 use Rattle.answer.specs.declared.Answer.TheVariants.{Accepted, Refused}
-use Rattle.answer.proofs.laws.Order.{accepted_kept, kept_behind, first_append, first_on_line, one_then}
+use Rattle.answer.proofs.laws.Order.{accepted_kept, kept_behind, first_append, first_on_line, joined, one_then}
 use Rattle.layout.specs.Records.{is_one_of}
 use Rattle.layout.specs.declared.Record.{Record}
 use Rattle.fields.specs.declared.Fields.{Fields}
-use Rattle.checker.specs.Machine.{line_of}
+use Rattle.checker.specs.Machine.{line_of, sound}
 use Rattle.checker.specs.declared.Checker.{Checker}
 use Rattle.writer.specs.Given.{Call, records_of}
 use Rattle.writer.specs.Refusals.{turn_rule, held, turn_limits, turn_rules, expected_in, expected_now, given_on_line, all_given, last_rules, call_rules}
@@ -46,6 +46,12 @@ unfolding AllKept
 has_room xs rs line n out e =
     let all = kept_behind xs (rules_on_line line rs ++ rules_on_line line (room n out ∷ [])) (accepted_kept _ e) in
     leb-true n (length out) (kept_behind (rules_on_line line rs) (rules_on_line line (room n out ∷ [])) all).0
+
+-- behind the turn: the answer by the records' rules, and then by the last ones, on the line that is next
+pub behind_turn : (m : Checker) (xs last : List Rule) {both tried late lined : Answer} {line : LineNo} → sound m ≡ true → both ≡ and_then tried lined
+    → tried ≡ first_broken xs → lined ≡ on_line line late → line ≡ cond (sound m) (line_of m) no_line → late ≡ first_broken last
+    → both ≡ first_broken (xs ++ rules_on_line (line_of m) last)
+behind_turn m xs last ok b t l n e = joined b xs (rules_on_line (line_of m) last) t (l ∙ rw (n, ok, e) (sym (first_on_line (line_of m) last)))
 
 -- ---- the turn
 

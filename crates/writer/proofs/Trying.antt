@@ -64,6 +64,16 @@ made_bytes : (r : Record) (d : Direction) (v : Fields) → (made_of r d v).answe
 unfolding made_of
 made_bytes r d v e = rw e
 
+-- what is made of fields that are filled, and what its check answers
+pub made_filled : (s : Checker) (g : Fields) {f : Fields} {d : Direction} {m : Made} → f ≡ filled g.which s g → d ≡ s.dir → m ≡ made_of f.which d f
+    → m ≡ made_of g.which s.dir (filled g.which s g)
+made_filled s g e p q = q ∙ rw (p, e, filled_which g.which s g)
+
+pub checked_filled : (expected : Bool) (s : Checker) (g : Fields) (m : Made) {f : Fields} {right : Answer} → f ≡ filled g.which s g → right ≡ kind_answer expected m f f.which
+    → right ≡ kind_answer expected m (filled g.which s g) g.which
+checked_filled expected s g m e q =
+    q ∙ ap (λ (x : Fields). kind_answer expected m x x.which) e ∙ ap (kind_answer expected m (filled g.which s g)) (filled_which g.which s g)
+
 module _ (expected : Bool) (s : Checker) (g : Fields) (whole : Whole g) {m : Made} (e : m ≡ made_of g.which s.dir (filled g.which s g))
     {right : Answer} (q : right ≡ kind_answer expected m (filled g.which s g) g.which) where
   abbrev v : Fields

@@ -18,4 +18,4 @@ returns-in-Accepted c =
     writes e accepted (line_long _ (barcode-of _ (input_kept e accepted)).long) c.write_line.ensures
 
 pub returns-in-Refused : goal.returns-in-Refused
-returns-in-Refused c = keeps ((let it : Answers (barcode_rules c.args.bar.now) line_digits c.args.out.now c.and_then-answer.result = (answers _ _ c.check_barcode.ensures c.room.ensures c.and_then-answer.ensures) in it)) _ c.in-Refused.is
+returns-in-Refused c = keeps (answers _ _ c.check_barcode.ensures c.room.ensures c.and_then-answer.ensures) _ c.in-Refused.is

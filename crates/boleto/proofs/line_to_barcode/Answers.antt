@@ -18,4 +18,4 @@ returns-in-Accepted c =
     writes e accepted (barcode_long _ (line_of _ (input_kept e accepted)).long) c.write_barcode.ensures
 
 pub returns-in-Refused : goal.returns-in-Refused
-returns-in-Refused c = keeps ((let it : Answers (digit_line_rules c.args.line.now) barcode_digits c.args.out.now c.and_then-answer.result = (answers _ _ c.check_digit_line.ensures c.room.ensures c.and_then-answer.ensures) in it)) _ c.in-Refused.is
+returns-in-Refused c = keeps (answers _ _ c.check_digit_line.ensures c.room.ensures c.and_then-answer.ensures) _ c.in-Refused.is

@@ -18,4 +18,4 @@ returns-in-Accepted c =
     writes e accepted (code_line_long _ (code-of _ (input_kept e accepted)).long) c.write_line.ensures
 
 pub returns-in-Refused : goal.returns-in-Refused
-returns-in-Refused c = keeps ((let it : Answers (code_rules c.args.code.now) code_line_digits c.args.out.now c.and_then-answer.result = (answers _ _ c.check_code.ensures c.room.ensures c.and_then-answer.ensures) in it)) _ c.in-Refused.is
+returns-in-Refused c = keeps (answers _ _ c.check_code.ensures c.room.ensures c.and_then-answer.ensures) _ c.in-Refused.is

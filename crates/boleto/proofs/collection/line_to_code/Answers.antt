@@ -18,4 +18,4 @@ returns-in-Accepted c =
     writes e accepted (code_long _ (code-line-of _ (input_kept e accepted)).long) c.write_code.ensures
 
 pub returns-in-Refused : goal.returns-in-Refused
-returns-in-Refused c = keeps ((let it : Answers (code_line_rules c.args.line.now) code_digits c.args.out.now c.and_then-answer.result = (answers _ _ c.check_code_line.ensures c.room.ensures c.and_then-answer.ensures) in it)) _ c.in-Refused.is
+returns-in-Refused c = keeps (answers _ _ c.check_code_line.ensures c.room.ensures c.and_then-answer.ensures) _ c.in-Refused.is

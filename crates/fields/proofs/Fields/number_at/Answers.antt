@@ -1,10 +1,7 @@
 -- `fields::Fields::number_at` meets its contract. Assumes nothing.
 use mathlib.Core.Path.{sym, ◌∙◌}
-use Prim.Native.Nat.{◌<◌}
 use native.Mathlib.Omega.{arith}
 use borrow.Author.Tests.{lt-ltb, le-ltb, not-true, not-false}
-use lib.ListN.{length}
-use Rattle.layout.specs.Table.{fields_of}
 use Rattle.fields.proofs.laws.Parts.{few}
 use Rattle.fields.proofs.Fields.number_at.Goals as goal
 
@@ -17,14 +14,14 @@ returns-then-count-field c =
     rw (sym c.is_of.ensures ∙ not-false _ c.if-not-is_of.false-raw, le-ltb _ _ past)
 
 pub offset_bounds-self-field : goal.offset_bounds-self-field
-offset_bounds-self-field c = omega (arith, (let it : c.args.name.1 < 32 = (omega (arith, (let it : c.args.name.1 < length (fields_of c.args.self.which) = (rw c.count.ensures at c.if-count-field.false) in it), few c.args.self.which)) in it))
+offset_bounds-self-field c = omega (arith, rw c.count.ensures at c.if-count-field.false, few c.args.self.which)
 
 pub returns : goal.returns
 returns c =
-    rw (sym c.is_of.ensures ∙ not-false _ c.if-not-is_of.false-raw, lt-ltb _ _ ((let it : c.args.name.1 < length (fields_of c.args.self.which) = (rw c.count.ensures at c.if-count-field.false) in it))) c.number_if.ensures
+    rw (sym c.is_of.ensures ∙ not-false _ c.if-not-is_of.false-raw, lt-ltb _ _ (rw c.count.ensures at c.if-count-field.false)) c.number_if.ensures
 
 pub bounds-self-field : goal.bounds-self-field
-bounds-self-field c = (let it : c.args.name.1 < 32 = (omega (arith, (let it : c.args.name.1 < length (fields_of c.args.self.which) = (rw c.count.ensures at c.if-count-field.false) in it), few c.args.self.which)) in it)
+bounds-self-field c = omega (arith, rw c.count.ensures at c.if-count-field.false, few c.args.self.which)
 
 pub bounds-self-field-2 : goal.bounds-self-field-2
-bounds-self-field-2 c = (let it : c.args.name.1 < 32 = (omega (arith, (let it : c.args.name.1 < length (fields_of c.args.self.which) = (rw c.count.ensures at c.if-count-field.false) in it), few c.args.self.which)) in it)
+bounds-self-field-2 c = omega (arith, rw c.count.ensures at c.if-count-field.false, few c.args.self.which)

@@ -1,12 +1,19 @@
 -- `files::whole::finish` meets its contract: the run, then the end. Assumes nothing.
 use mathlib.Core.Path.{◌≡◌, ◌∙◌}
-use Rattle.files.specs.File.{end_of, outcome, finish}
+use mathlib.Core.List.{List}
+use Prim.Native.Nat.{ℕ}
+use Rattle.checker.specs.declared.Checker.{Checker}
+use Rattle.checker.specs.declared.Stepped.{Stepped}
+use Rattle.files.specs.File.{lines_of, steps, end_of, outcome, finish}
 use Rattle.files.proofs.whole.finish.Goals as goal
 
-pub returns-in-Accepted : goal.returns-in-Accepted
+-- what a run leaves, and its end
+by_run : (s : Checker) (rest : List ℕ) {t : Stepped} → t ≡ steps s (lines_of rest) → outcome t.answer (end_of t.state) ≡ finish s rest
 unfolding finish
-returns-in-Accepted c = c.end.ensures ∙ (rw c.in-Accepted.is at ((let it : outcome c.run-stepped.result.answer (end_of c.run-stepped.result.state) ≡ finish c.args.from c.args.rest.now = (rw c.run-stepped.ensures) in it)))
+by_run s rest e = rw e
+
+pub returns-in-Accepted : goal.returns-in-Accepted
+returns-in-Accepted c = c.end.ensures ∙ (rw c.in-Accepted.is at (by_run _ _ c.run-stepped.ensures))
 
 pub returns-in-Refused : goal.returns-in-Refused
-unfolding finish
-returns-in-Refused c = rw c.in-Refused.is at ((let it : outcome c.run-stepped.result.answer (end_of c.run-stepped.result.state) ≡ finish c.args.from c.args.rest.now = (rw c.run-stepped.ensures) in it))
+returns-in-Refused c = rw c.in-Refused.is at (by_run _ _ c.run-stepped.ensures)

@@ -18,16 +18,16 @@ returns c =
     subst⁻¹ (λ (n : ℕ). span_in starts n ≡ span_of c.args.which) (ap (λ (x : Shape). x.code) c.shape_of-n.ensures) (starts_are c.args.which)
 
 pub offset_bounds-n : goal.offset_bounds-n
-offset_bounds-n c = omega (arith, (let it : c.shape_of-n.result.code < 10 = (below c.args.which c.shape_of-n.ensures) in it))
+offset_bounds-n c = omega (arith, (below c.args.which c.shape_of-n.ensures))
 
 pub bounds-n : goal.bounds-n
-bounds-n c = omega (arith, (let it : c.shape_of-n.result.code < 10 = (below c.args.which c.shape_of-n.ensures) in it))
+bounds-n c = omega (arith, (below c.args.which c.shape_of-n.ensures))
 
 pub overflow_add-result : goal.overflow_add-result
-overflow_add-result c = omega (arith, (let it : c.shape_of-n.result.code < 10 = (below c.args.which c.shape_of-n.ensures) in it))
+overflow_add-result c = omega (arith, (below c.args.which c.shape_of-n.ensures))
 
 pub offset_bounds-n-2 : goal.offset_bounds-n-2
-offset_bounds-n-2 c = omega (arith, (let it : c.shape_of-n.result.code < 10 = (below c.args.which c.shape_of-n.ensures) in it))
+offset_bounds-n-2 c = omega (arith, (below c.args.which c.shape_of-n.ensures))
 
 pub bounds-n-2 : goal.bounds-n-2
-bounds-n-2 c = omega (arith, (let it : c.shape_of-n.result.code < 10 = (below c.args.which c.shape_of-n.ensures) in it))
+bounds-n-2 c = omega (arith, (below c.args.which c.shape_of-n.ensures))

@@ -43,7 +43,11 @@ walk-requires c =
 
 pub returns-then-end-first : goal.returns-then-end-first
 unfolding rules_of
-returns-then-end-first c = rw (no_fields_left _ _ _ _ ((let it : c.least-end.result ≡ min c.args.past (length (fields_of c.args.which)) = (c.least-end.ensures ∙ rw (many_is _ c.span_of-s.ensures)) in it)) c.if-end-first.true) done
+returns-then-end-first c =
+    let e : c.least-end.result ≡ min c.args.past (length (fields_of c.args.which)) = c.least-end.ensures ∙ rw (many_is _ c.span_of-s.ensures) in
+    rw (no_fields_left _ _ _ _ e c.if-end-first.true) done
 
 pub returns : goal.returns
-returns c = c.walk.ensures ∙ rw (first_is _ c.span_of-s.ensures, some_fields c.args.which _ _ _ ((let it : c.least-end.result ≡ min c.args.past (length (fields_of c.args.which)) = (c.least-end.ensures ∙ rw (many_is _ c.span_of-s.ensures)) in it)))
+returns c =
+    let e : c.least-end.result ≡ min c.args.past (length (fields_of c.args.which)) = c.least-end.ensures ∙ rw (many_is _ c.span_of-s.ensures) in
+    c.walk.ensures ∙ rw (first_is _ c.span_of-s.ensures, some_fields c.args.which _ _ _ e)

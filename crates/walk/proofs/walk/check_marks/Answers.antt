@@ -1,9 +1,9 @@
 -- `walk::walk::check_marks` meets its contract. Assumes nothing.
-use mathlib.Core.Path.{◌≡◌, sym, ap, ◌∙◌}
+use mathlib.Core.Path.{sym, ap, ◌∙◌}
 use native.Mathlib.Omega.{arith}
 use borrow.Author.Tests.{not-true, not-false}
 use Rattle.layout.proofs.laws.Columns.{type_there, segment_there, first_is, marks_in_table}
-use Rattle.layout.specs.Records.{shape_of, is_detail}
+use Rattle.layout.specs.Records.{is_detail}
 use Rattle.layout.specs.declared.shapes.Shape.{Shape}
 use Rattle.walk.proofs.Rounds.{type_alone, type_then}
 use Rattle.walk.proofs.walk.check_marks.Goals as goal
@@ -16,7 +16,7 @@ walk-type_fits-requires c =
 pub returns-then-not-is_detail : goal.returns-then-not-is_detail
 returns-then-not-is_detail c =
     let r = c.args.which in
-    let no = sym ((let it : c.is_detail.result ≡ is_detail (shape_of c.args.which).line = (c.is_detail.ensures ∙ ap (λ (x : Shape). is_detail x.line) c.shape_of-line.ensures) in it)) ∙ not-true _ c.if-not-is_detail.true-raw in
+    let no = sym ((c.is_detail.ensures ∙ ap (λ (x : Shape). is_detail x.line) c.shape_of-line.ensures)) ∙ not-true _ c.if-not-is_detail.true-raw in
     c.walk-type_fits.ensures ∙ rw (first_is r c.span_of-s.ensures, type_there r) (type_alone r _ _ no)
 
 pub walk-requires : goal.walk-requires
@@ -28,7 +28,7 @@ pub returns : goal.returns
 returns c =
     let r = c.args.which in
     let first = first_is r c.span_of-s.ensures in
-    let some = sym ((let it : c.is_detail.result ≡ is_detail (shape_of c.args.which).line = (c.is_detail.ensures ∙ ap (λ (x : Shape). is_detail x.line) c.shape_of-line.ensures) in it)) ∙ not-false _ c.if-not-is_detail.false-raw in
+    let some = sym ((c.is_detail.ensures ∙ ap (λ (x : Shape). is_detail x.line) c.shape_of-line.ensures)) ∙ not-false _ c.if-not-is_detail.false-raw in
     c.and_then.ensures ∙ rw (c.walk-type_fits.ensures, c.walk.ensures, first, type_there r, segment_there r some) (type_then r _ _)
 
 pub overflow_add-type_at : goal.overflow_add-type_at

@@ -1,14 +1,12 @@
 -- `writer::Writer::close_batch` meets its contract. Assumes nothing.
-use Rattle.answer.specs.Rules.{first_broken}
 use Rattle.answer.proofs.laws.Order.{done}
 use Rattle.layout.specs.declared.Record.TheVariants.{BatchTrailer}
 use Rattle.writer.proofs.Answering.{turn_is, turned, whole_call, one_expected}
 use Rattle.fields.specs.Values.{taken_as}
 use Rattle.writer.specs.Given.{close_batch}
-use Rattle.writer.specs.Refusals.{turn_rules}
 use Rattle.writer.proofs.laws.TakesCall.{trailer_may}
 use mathlib.Core.List.{[], ◌∷◌}
-use mathlib.Core.Path.{◌≡◌, ◌∙◌}
+use mathlib.Core.Path.{◌∙◌}
 use mathlib.Core.Path.{refl}
 use Rattle.writer.proofs.Writer.close_batch.Goals as goal
 
@@ -16,11 +14,11 @@ pub write_one-requires : goal.write_one-requires
 write_one-requires c =
     λ t.
     let a = c.args in
-    let k = turned (close_batch a.v) a.self.checker ((let it : c.check_turn-turn.result ≡ first_broken (turn_rules (close_batch c.args.v) c.args.self.checker) = (c.check_turn-turn.ensures ∙ rw (c.turns_at-may.ensures, c.phase.ensures) (turn_is c.args.self.checker _ _ done)) in it)) t in
+    let k = turned (close_batch a.v) a.self.checker (c.check_turn-turn.ensures ∙ rw (c.turns_at-may.ensures, c.phase.ensures) (turn_is c.args.self.checker _ _ done)) t in
     rw c.taken_as.ensures (trailer_may a.self.checker k.0 a.v k.1)
 
 pub returns : goal.returns
 returns c =
     let a = c.args in
-    whole_call (close_batch a.v) ((let it : c.check_turn-turn.result ≡ first_broken (turn_rules (close_batch c.args.v) c.args.self.checker) = (c.check_turn-turn.ensures ∙ rw (c.turns_at-may.ensures, c.phase.ensures) (turn_is c.args.self.checker _ _ done)) in it))
+    whole_call (close_batch a.v) (c.check_turn-turn.ensures ∙ rw (c.turns_at-may.ensures, c.phase.ensures) (turn_is c.args.self.checker _ _ done))
     (one_expected (taken_as BatchTrailer a.v) ((BatchTrailer ∷ []) ∷ []) _ refl (rw c.taken_as.ensures at c.write_one.ensures))

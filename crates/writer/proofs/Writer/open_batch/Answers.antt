@@ -1,13 +1,11 @@
 -- `writer::Writer::open_batch` meets its contract. Assumes nothing.
-use Rattle.answer.specs.Rules.{first_broken}
 use Rattle.layout.specs.declared.Record.TheVariants.{BatchHeader}
 use Rattle.writer.proofs.Answering.{turn_is, turned, whole_call, one_expected}
 use Rattle.fields.specs.Values.{taken_as}
 use Rattle.writer.specs.Given.{open_batch}
-use Rattle.writer.specs.Refusals.{turn_rules}
 use Rattle.writer.proofs.laws.TakesCall.{batch_may}
 use mathlib.Core.List.{[], ◌∷◌}
-use mathlib.Core.Path.{◌≡◌, ◌∙◌}
+use mathlib.Core.Path.{◌∙◌}
 use mathlib.Core.Path.{refl}
 use Rattle.writer.proofs.Writer.open_batch.Goals as goal
 
@@ -15,11 +13,11 @@ pub write_one-requires : goal.write_one-requires
 write_one-requires c =
     λ t.
     let a = c.args in
-    let k = turned (open_batch a.v) a.self.checker ((let it : c.check_turn-turn.result ≡ first_broken (turn_rules (open_batch c.args.v) c.args.self.checker) = (c.check_turn-turn.ensures ∙ rw (c.turns_at-may.ensures, c.phase.ensures) (turn_is c.args.self.checker _ _ (rw c.taken_as-given.ensures at c.batch_limits.ensures))) in it)) t in
+    let k = turned (open_batch a.v) a.self.checker ((c.check_turn-turn.ensures ∙ rw (c.turns_at-may.ensures, c.phase.ensures) (turn_is c.args.self.checker _ _ (rw c.taken_as-given.ensures at c.batch_limits.ensures)))) t in
     rw c.taken_as-given.ensures (batch_may a.self.checker k.0 a.v k.1)
 
 pub returns : goal.returns
 returns c =
     let a = c.args in
-    whole_call (open_batch a.v) ((let it : c.check_turn-turn.result ≡ first_broken (turn_rules (open_batch c.args.v) c.args.self.checker) = (c.check_turn-turn.ensures ∙ rw (c.turns_at-may.ensures, c.phase.ensures) (turn_is c.args.self.checker _ _ (rw c.taken_as-given.ensures at c.batch_limits.ensures))) in it))
+    whole_call (open_batch a.v) ((c.check_turn-turn.ensures ∙ rw (c.turns_at-may.ensures, c.phase.ensures) (turn_is c.args.self.checker _ _ (rw c.taken_as-given.ensures at c.batch_limits.ensures))))
     (one_expected (taken_as BatchHeader a.v) ((BatchHeader ∷ []) ∷ []) _ refl (rw c.taken_as-given.ensures at c.write_one.ensures))

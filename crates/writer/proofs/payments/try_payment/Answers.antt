@@ -1,10 +1,7 @@
 -- `writer::payments::try_payment` meets its contract: position by position. Assumes nothing.
 use mathlib.Core.Path.{refl}
-use Prim.Native.Nat.{◌<◌}
 use native.Mathlib.Omega.{arith}
-use lib.ListN.{length}
-use Rattle.writer.specs.Given.{records_in}
-use Rattle.writer.specs.inner.Steps.{nth_in, expected_at, Tries}
+use Rattle.writer.specs.inner.Steps.{nth_in}
 use Rattle.writer.proofs.laws.Paying.{may_try}
 use Rattle.writer.proofs.Trying.{going_first, going_stopped, going_on, gone_through}
 use Rattle.writer.proofs.payments.try_payment.Goals as goal
@@ -21,7 +18,7 @@ try_at-tried-requires c =
     }
 
 pub returns-in-Refused : goal.returns-in-Refused
-returns-in-Refused c = going_stopped c.loop-k.invariant ((let it : c.loop-k.k < length (records_in c.args.p) = (omega (arith, c.records-count.ensures)) in it)) ((let it : Tries (expected_at c.loop-k.k c.args.m.dir c.args.m.batch (nth_in c.loop-k.k c.args.p).which) c.loop-k.checker (nth_in c.loop-k.k c.args.p) c.try_at-tried.result = (rw (c.direction-dir.ensures, c.batch-batch.ensures) at c.try_at-tried.ensures) in it)) _ c.in-Refused.is
+returns-in-Refused c = going_stopped c.loop-k.invariant (omega (arith, c.records-count.ensures)) (rw (c.direction-dir.ensures, c.batch-batch.ensures) at c.try_at-tried.ensures) _ c.in-Refused.is
 
 pub offset_bounds-made-k : goal.offset_bounds-made-k
 offset_bounds-made-k c = omega (arith, c.records-count.ensures)
@@ -36,7 +33,7 @@ pub loop-k-smaller : goal.loop-k-smaller
 loop-k-smaller c = omega (arith, c.records-count.ensures)
 
 pub loop-k-preserved : goal.loop-k-preserved
-loop-k-preserved c = going_on c.loop-k.invariant ((let it : c.loop-k.k < length (records_in c.args.p) = (omega (arith, c.records-count.ensures)) in it)) ((let it : Tries (expected_at c.loop-k.k c.args.m.dir c.args.m.batch (nth_in c.loop-k.k c.args.p).which) c.loop-k.checker (nth_in c.loop-k.k c.args.p) c.try_at-tried.result = (rw (c.direction-dir.ensures, c.batch-batch.ensures) at c.try_at-tried.ensures) in it)) c.in-Accepted.is
+loop-k-preserved c = going_on c.loop-k.invariant (omega (arith, c.records-count.ensures)) (rw (c.direction-dir.ensures, c.batch-batch.ensures) at c.try_at-tried.ensures) c.in-Accepted.is
 
 pub returns : goal.returns
 returns c = gone_through c.loop-k.invariant (omega (arith, c.records-count.ensures))
