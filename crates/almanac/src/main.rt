@@ -24,8 +24,6 @@ const LONGEST_MONTH: u64 = 31;
 
 const MONTHS: u64 = 12;
 
-const DATES_TRIED: u64 = (LAST_TRIED + 1 - FIRST_TRIED) * MONTHS * LONGEST_MONTH;
-
 // DDMM0000
 const LAST_OF_DECEMBER: u64 = 31120000;
 
@@ -43,36 +41,28 @@ fn is_time(hhmmss: u64) -> bool {
     calendar::time_fits(&text)
 }
 
-fn dates_in(year: u64) -> u64
+fn dates_in(year: u64) -> usize
     requires { year ≤ 2200 }
 {
-    let mut dates = 0;
-    for tried in 0..DAYS_TRIED * MONTHS_TRIED {
-        let day = tried % DAYS_TRIED;
-        let month = tried / DAYS_TRIED;
-        if is_date(day * 1000000 + month * 10000 + year) {
-            dates += 1;
-        }
-    }
-    dates
+    (0..DAYS_TRIED * MONTHS_TRIED)
+        .filter(|tried| {
+            let day = tried % DAYS_TRIED;
+            let month = tried / DAYS_TRIED;
+            is_date(day * 1000000 + month * 10000 + year)
+        })
+        .count()
 }
 
-fn times() -> u64 {
-    let mut times = 0;
-    for tried in 0..TIMES_TRIED {
-        if is_time(tried) {
-            times += 1;
-        }
-    }
-    times
+fn times() -> usize {
+    (0..TIMES_TRIED).filter(|tried| is_time(*tried)).count()
 }
 
 fn print_year(rt: &impl Print, year: u64) -> io::Result<()>
     requires { year ≤ 2200 }
 {
     let dates = dates_in(year);
-    let days = Date::of(LAST_OF_DECEMBER + year).day_number();
-    let factor = Date::of(FIRST_OF_MARCH + year).due_factor();
+    let days = Date::from(LAST_OF_DECEMBER + year).day_number();
+    let factor = Date::from(FIRST_OF_MARCH + year).due_factor();
     println!(rt; "{year} {dates} {days} {factor}")
 }
 
@@ -85,10 +75,7 @@ fn print_years(rt: &impl Print) -> io::Result<()> {
 
 // Whether a date's factor is the next behind the last date's: one more, or still none.
 fn goes_on(last: u64, factor: u64) -> bool {
-    if factor < 2 {
-        return (factor == 0) & (last == 0);
-    }
-    factor - 1 == last
+    (factor == 0 && last == 0) || (1 < factor && factor - 1 == last)
 }
 
 fn print_turn(rt: &impl Print, date: Date, last: u64, factor: u64) -> io::Result<()> {
@@ -110,13 +97,12 @@ fn factor_behind(rt: &impl Print, last: u64, date: Date) -> io::Result<u64> {
 
 fn print_turns(rt: &impl Print) -> io::Result<()> {
     let mut last = 0;
-    for tried in 0..DATES_TRIED {
-        let date = Date {
-            day: 1 + tried % LONGEST_MONTH,
-            month: 1 + tried / LONGEST_MONTH % MONTHS,
-            year: FIRST_TRIED + tried / LONGEST_MONTH / MONTHS,
-        };
-        last = factor_behind(rt, last, date)?;
+    for year in FIRST_TRIED..=LAST_TRIED {
+        for month in 1..=MONTHS {
+            for day in 1..=LONGEST_MONTH {
+                last = factor_behind(rt, last, Date { day, month, year })?;
+            }
+        }
     }
     Ok(())
 }

@@ -3,3 +3,4 @@ pub mod Order
 pub mod Only
 pub mod Frame
 pub mod Sums
+pub mod Leaving

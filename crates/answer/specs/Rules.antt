@@ -1,9 +1,12 @@
 -- Rules in the paper's order, and the answer: the first that is broken. Assumes nothing.
-use Rattle.std.specs.Prelude.{◌≡◌, Bool, true, false, cond, List, [], ◌∷◌, ◌++◌, map, ℕ}
+use Rattle.std.specs.Prelude.{◌≡◌, Bool, true, false, cond, List, [], ◌∷◌, ◌++◌, map, ℕ, Result, Ok, Err, ⊤, is_ok}
 use Rattle.answer.specs.declared.LineNo.{LineNo}
 use Rattle.answer.specs.declared.Refusal.{Refusal}
-use Rattle.answer.specs.declared.Answer.{Answer}
-use Rattle.answer.specs.declared.Answer.TheVariants.{Accepted, Refused}
+use Rattle.std.specs.Result.{result_and}
+
+-- an acceptance, or one refusal
+abbrev pub Answer : Type 0
+Answer = Result ⊤ Refusal
 
 abbrev pub refusal : ℕ → LineNo → ℕ → Refusal
 refusal number line place = record { number = number; line = line; place = place }
@@ -14,7 +17,7 @@ no_line = record { 0 = 0 }
 
 -- a number and a place of the table, on no line
 abbrev pub refused_as : ℕ → ℕ → Answer
-refused_as number place = Refused (refusal number no_line place)
+refused_as number place = Err (refusal number no_line place)
 
 -- what is refused where the rule is broken, and whether it is kept
 pub record Rule : Type 0 where
@@ -26,8 +29,8 @@ rule number place kept = record { refused = refusal number no_line place; kept =
 
 -- the first broken rule's refusal; none is broken: accepted
 unfoldable pub first_broken : List Rule → Answer
-first_broken [] = Accepted
-first_broken (r ∷ later) = cond r.kept (first_broken later) (Refused r.refused)
+first_broken [] = Ok tt
+first_broken (r ∷ later) = cond r.kept (first_broken later) (Err r.refused)
 
 -- ---- what an answer means
 
@@ -44,24 +47,22 @@ pub record Broken (rules : List Rule) (r : Refusal) : Type 0 where
 
 -- the answers that rules allow
 pub data Allowed (rules : List Rule) : Answer → Type 0 where
-  accepted : AllKept rules → Allowed rules Accepted
-  refused : {r : Refusal} → Broken rules r → Allowed rules (Refused r)
+  accepted : AllKept rules → Allowed rules (Ok tt)
+  refused : {r : Refusal} → Broken rules r → Allowed rules (Err r)
 
 -- ---- answers asked, joined, and put on a line
 
 -- whether an answer is an acceptance
 abbrev pub accepts : Answer → Bool
-accepts Accepted = true
-accepts (Refused r) = false
+accepts a = is_ok a
 
 -- the later answer counts where the first accepts
 abbrev pub and_then : Answer → Answer → Answer
-and_then Accepted later = later
-and_then (Refused r) later = Refused r
+and_then first later = result_and first later
 
 abbrev pub on_line : LineNo → Answer → Answer
-on_line line Accepted = Accepted
-on_line line (Refused r) = Refused (refusal r.number line r.place)
+on_line line (Ok tt) = Ok tt
+on_line line (Err r) = Err (refusal r.number line r.place)
 
 abbrev pub rule_on_line : LineNo → Rule → Rule
 rule_on_line line r = record { refused = refusal r.refused.number line r.refused.place; kept = r.kept }

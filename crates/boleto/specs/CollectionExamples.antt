@@ -1,9 +1,8 @@
 -- Collection codes and lines, computed: one statement over one table. Assumes nothing.
-use Rattle.std.specs.Prelude.{Bool, true, false, cond, not, ◌&&◌, ◌||◌, List, [], ◌∷◌, ℕ, zero, suc, ◌+◌, ◌-◌, T, eqb, set}
+use Rattle.std.specs.Prelude.{Bool, true, false, cond, not, ◌&&◌, ◌||◌, List, [], ◌∷◌, ℕ, zero, suc, ◌+◌, ◌-◌, T, eqb, set, Err, Ok}
 use Prim.Native.String.{String}
 use Rattle.answer.specs.Rules.{first_broken, accepts}
-use Rattle.answer.specs.declared.Answer.{Answer}
-use Rattle.answer.specs.declared.Answer.TheVariants.{Accepted, Refused}
+use Rattle.answer.specs.Rules.{Answer}
 use Rattle.digits.specs.Digits.{bytes, digit_byte, leading, place, weighed}
 use Rattle.digits.specs.Checks.{counts, lift, check_digit}
 use Rattle.digits.specs.declared.sealing.Modulus.TheVariants.{Ten, PlainEleven}
@@ -31,8 +30,8 @@ abbrev right_line : List ℕ → Bool
 right_line line = accepts (first_broken (code_line_rules line))
 
 abbrev refused_with : ℕ → ℕ → Answer → Bool
-refused_with number place Accepted = false
-refused_with number place (Refused r) = eqb r.number number && eqb r.place place
+refused_with number place (Ok tt) = false
+refused_with number place (Err r) = eqb r.number number && eqb r.place place
 
 -- a test passed by a string, and by the string with another digit d at place p
 abbrev differ : (List ℕ → Bool) → ℕ → ℕ → List ℕ → Bool

@@ -6,7 +6,7 @@ ghost use Rattle.answer.specs.Output.{Writes};
 ghost use Rattle.boleto.specs.Collection.{code_digits, code_line_digits, modulus_of, code_line_of, code_of};
 ghost use Rattle.boleto.specs.CollectionRules.{product_fits, identifier_fits, code_sealed, code_head_rules, code_rules, block_rule, block_rules, code_line_rules};
 
-use super::writing::{put, put_sealed};
+use super::writing::{put, seal};
 use super::{check_part, check_string};
 use answer::{Answer, numbers};
 use digits::Modulus;
@@ -26,35 +26,25 @@ pub const CHECK_PLACE: usize = 4;
 pub fn product_fits(s: &[u8]) -> bool
     ensures { result ≡ product_fits s.now }
 {
-    if s.len() < PRODUCT_PLACE {
-        return false;
-    }
-    s[PRODUCT_PLACE - 1] == b'8'
+    s.get(PRODUCT_PLACE - 1) == Some(&b'8')
 }
 
 // Whether the value identifier of a code or a line is 6, 7, 8 or 9.
 pub fn identifier_fits(s: &[u8]) -> bool
     ensures { result ≡ identifier_fits s.now }
 {
-    if s.len() < IDENTIFIER_PLACE {
-        return false;
-    }
-    let identifier = s[IDENTIFIER_PLACE - 1];
-    (b'6' <= identifier) & (identifier <= b'9')
+    matches!(s.get(IDENTIFIER_PLACE - 1), Some(b'6'..=b'9'))
 }
 
 // How the check digits of a code or a line are made: its identifier says.
+#[tactic(auto, unfolding(crate::specs::Collection::modulus_of))]
 fn modulus_of(s: &[u8]) -> Modulus
     ensures { result ≡ modulus_of s.now }
 {
-    if s.len() < IDENTIFIER_PLACE {
-        return Modulus::PlainEleven;
+    match s.get(IDENTIFIER_PLACE - 1) {
+        Some(b'6' | b'7') => Modulus::Ten,
+        _ => Modulus::PlainEleven,
     }
-    let identifier = s[IDENTIFIER_PLACE - 1];
-    if (identifier == b'6') | (identifier == b'7') {
-        return Modulus::Ten;
-    }
-    Modulus::PlainEleven
 }
 
 // The general check of a code.
@@ -68,17 +58,17 @@ pub fn is_sealed(code: &[u8]) -> bool
 fn check_head(s: &[u8], n: usize) -> Answer
     ensures { result ≡ first_broken (code_head_rules n s.now) }
 {
-    let product = Answer::test(numbers::PRODUCT, PRODUCT_PLACE, product_fits(s));
-    let identifier = Answer::test(numbers::IDENTIFIER, IDENTIFIER_PLACE, identifier_fits(s));
-    check_string(s, n).and_then(product.and_then(identifier))
+    check_string(s, n)?;
+    answer::test(numbers::PRODUCT, PRODUCT_PLACE, product_fits(s))?;
+    answer::test(numbers::IDENTIFIER, IDENTIFIER_PLACE, identifier_fits(s))
 }
 
 // A code: its length, its digits, its product, its identifier and its general check.
 pub fn check_code(code: &[u8]) -> Answer
     ensures { result ≡ first_broken (code_rules code.now) }
 {
-    let head = check_head(code, CODE_DIGITS);
-    head.and_then(Answer::test(numbers::CODE_CHECK, CHECK_PLACE, is_sealed(code)))
+    check_head(code, CODE_DIGITS)?;
+    answer::test(numbers::CODE_CHECK, CHECK_PLACE, is_sealed(code))
 }
 
 // Writes the code of a line over the first 44 bytes of out.
@@ -100,10 +90,14 @@ fn write_line(code: &[u8], out: &mut [u8])
     ensures { out.new ≡ code_line_of code.now ++ drop code_line_digits out.old }
 {
     let m = modulus_of(code);
-    put_sealed(m, code, 1, 11, out, 1, 1);
-    put_sealed(m, code, 12, 22, out, 13, 13);
-    put_sealed(m, code, 23, 33, out, 25, 25);
-    put_sealed(m, code, 34, 44, out, 37, 37);
+    put(code, 1, 11, out, 1);
+    seal(m, out, 1, 12);
+    put(code, 12, 22, out, 13);
+    seal(m, out, 13, 24);
+    put(code, 23, 33, out, 25);
+    seal(m, out, 25, 36);
+    put(code, 34, 44, out, 37);
+    seal(m, out, 37, 48);
 }
 
 // The general check of a line is that of its code.
@@ -129,49 +123,37 @@ fn check_blocks(line: &[u8]) -> Answer
     requires { length line.now ≡ code_line_digits }
     ensures { result ≡ first_broken (block_rules line.now) }
 {
-    let first = check_block(line, 1, 12);
-    let second = check_block(line, 13, 24);
-    let third = check_block(line, 25, 36);
-    let fourth = check_block(line, 37, 48);
-    let general = Answer::test(numbers::CODE_CHECK, CHECK_PLACE, line_is_sealed(line));
-    first.and_then(second.and_then(third.and_then(fourth.and_then(general))))
+    check_block(line, 1, 12)?;
+    check_block(line, 13, 24)?;
+    check_block(line, 25, 36)?;
+    check_block(line, 37, 48)?;
+    answer::test(numbers::CODE_CHECK, CHECK_PLACE, line_is_sealed(line))
 }
 
 // A line: its length, its digits, its product, its identifier, its four blocks and its general check.
 pub fn check_code_line(line: &[u8]) -> Answer
     ensures { result ≡ first_broken (code_line_rules line.now) }
 {
-    let head = check_head(line, LINE_DIGITS);
-    match head {
-        Answer::Accepted => check_blocks(line),
-        Answer::Refused(_) => head,
-    }
+    check_head(line, LINE_DIGITS)?;
+    check_blocks(line)
 }
 
 // Writes the line of a code over the first 48 bytes of out.
 pub fn code_to_line(code: &[u8], out: &mut [u8]) -> Answer
     ensures { Writes (code_rules code.now) code_line_digits (code_line_of code.now) out.old result out.new }
 {
-    let answer = check_code(code).and_then(Answer::room(LINE_DIGITS, out));
-    match answer {
-        Answer::Accepted => {
-            write_line(code, out);
-            answer
-        }
-        Answer::Refused(_) => answer,
-    }
+    check_code(code)?;
+    answer::room(LINE_DIGITS, out)?;
+    write_line(code, out);
+    Ok(())
 }
 
 // Writes the code of a line over the first 44 bytes of out.
 pub fn line_to_code(line: &[u8], out: &mut [u8]) -> Answer
     ensures { Writes (code_line_rules line.now) code_digits (code_of line.now) out.old result out.new }
 {
-    let answer = check_code_line(line).and_then(Answer::room(CODE_DIGITS, out));
-    match answer {
-        Answer::Accepted => {
-            write_code(line, out);
-            answer
-        }
-        Answer::Refused(_) => answer,
-    }
+    check_code_line(line)?;
+    answer::room(CODE_DIGITS, out)?;
+    write_code(line, out);
+    Ok(())
 }

@@ -31,10 +31,7 @@ const LINE_CHECK: usize = 33;
 pub fn currency_fits(s: &[u8]) -> bool
     ensures { result ≡ currency_fits s.now }
 {
-    if s.len() < CURRENCY_PLACE {
-        return false;
-    }
-    s[CURRENCY_PLACE - 1] == b'9'
+    s.get(CURRENCY_PLACE - 1) == Some(&b'9')
 }
 
 // Whether s is a string of n digits.
@@ -42,20 +39,21 @@ fn check_string(s: &[u8], n: usize) -> Answer
     ensures { result ≡ first_broken (string_rules n s.now) }
 {
     if s.len() != n {
-        return Answer::refused(numbers::STRING_LENGTH, 0);
+        return answer::refused(numbers::STRING_LENGTH, 0);
     }
     let leading = digits::leading(s);
     if leading != s.len() {
-        return Answer::refused(numbers::STRING_DIGIT, leading + 1);
+        return answer::refused(numbers::STRING_DIGIT, leading + 1);
     }
-    Answer::Accepted
+    Ok(())
 }
 
 // The rules that barcode and line share, for a string of n digits.
 fn check_head(s: &[u8], n: usize) -> Answer
     ensures { result ≡ first_broken (head_rules n s.now) }
 {
-    check_string(s, n).and_then(Answer::test(numbers::CURRENCY, CURRENCY_PLACE, currency_fits(s)))
+    check_string(s, n)?;
+    answer::test(numbers::CURRENCY, CURRENCY_PLACE, currency_fits(s))
 }
 
 // The general check of a barcode.
@@ -69,8 +67,8 @@ pub fn is_sealed(bar: &[u8]) -> bool
 pub fn check_barcode(bar: &[u8]) -> Answer
     ensures { result ≡ first_broken (barcode_rules bar.now) }
 {
-    let head = check_head(bar, BARCODE_DIGITS);
-    head.and_then(Answer::test(numbers::STRING_CHECK, BARCODE_CHECK, is_sealed(bar)))
+    check_head(bar, BARCODE_DIGITS)?;
+    answer::test(numbers::STRING_CHECK, BARCODE_CHECK, is_sealed(bar))
 }
 
 // The check digit at the end of a part of a line, which has the places from `first` to `last`. A
@@ -80,7 +78,7 @@ fn check_part(number: u8, m: Modulus, line: &[u8], first: usize, last: usize) ->
     ensures { result ≡ first_broken (part_rule number m first last line.now ∷ []) }
 {
     let sealed = digits::is_sealed(m, &line[first - 1..last], last - first);
-    Answer::test(number, last, sealed)
+    answer::test(number, last, sealed)
 }
 
 // A field of a boleto's line.
@@ -106,48 +104,36 @@ fn check_digits(line: &[u8]) -> Answer
     requires { length line.now ≡ line_digits }
     ensures { result ≡ first_broken (check_rules line.now) }
 {
-    let first = check_field(line, 1, 10);
-    let second = check_field(line, 11, 21);
-    let third = check_field(line, 22, 32);
-    let general = Answer::test(numbers::STRING_CHECK, LINE_CHECK, general_fits(line));
-    first.and_then(second.and_then(third.and_then(general)))
+    check_field(line, 1, 10)?;
+    check_field(line, 11, 21)?;
+    check_field(line, 22, 32)?;
+    answer::test(numbers::STRING_CHECK, LINE_CHECK, general_fits(line))
 }
 
 // A digit line: its length, its digits, its currency, its three fields and its general check.
 pub fn check_digit_line(line: &[u8]) -> Answer
     ensures { result ≡ first_broken (digit_line_rules line.now) }
 {
-    let head = check_head(line, LINE_DIGITS);
-    match head {
-        Answer::Accepted => check_digits(line),
-        Answer::Refused(_) => head,
-    }
+    check_head(line, LINE_DIGITS)?;
+    check_digits(line)
 }
 
 // Writes the line of a barcode over the first 47 bytes of out.
 pub fn barcode_to_line(bar: &[u8], out: &mut [u8]) -> Answer
     ensures { Writes (barcode_rules bar.now) line_digits (digit_line_of bar.now) out.old result out.new }
 {
-    let answer = check_barcode(bar).and_then(Answer::room(LINE_DIGITS, out));
-    match answer {
-        Answer::Accepted => {
-            write_line(bar, out);
-            answer
-        }
-        Answer::Refused(_) => answer,
-    }
+    check_barcode(bar)?;
+    answer::room(LINE_DIGITS, out)?;
+    write_line(bar, out);
+    Ok(())
 }
 
 // Writes the barcode of a line over the first 44 bytes of out.
 pub fn line_to_barcode(line: &[u8], out: &mut [u8]) -> Answer
     ensures { Writes (digit_line_rules line.now) barcode_digits (barcode_of line.now) out.old result out.new }
 {
-    let answer = check_digit_line(line).and_then(Answer::room(BARCODE_DIGITS, out));
-    match answer {
-        Answer::Accepted => {
-            write_barcode(line, out);
-            answer
-        }
-        Answer::Refused(_) => answer,
-    }
+    check_digit_line(line)?;
+    answer::room(BARCODE_DIGITS, out)?;
+    write_barcode(line, out);
+    Ok(())
 }

@@ -12,40 +12,16 @@ pub(crate) fn put(src: &[u8], first: usize, last: usize, out: &mut [u8], to: usi
     requires le_to { (1 ≤ to) × (to + (last - first) ≤ length out.old) }
     ensures { out.new ≡ laid out.old to src.now first last }
 {
-    let mut i = first - 1;
-    let mut o = to - 1;
-    while i < last {
-        out[o] = src[i];
-        i += 1;
-        o += 1;
-    }
+    let part = &src[first - 1..last];
+    out[to - 1..to + (last - first)].copy_from_slice(part);
 }
 
 // Writes at place `last` the check digit of those from place `first` up to it.
-fn seal(m: Modulus, out: &mut [u8], first: usize, last: usize)
+pub(crate) fn seal(m: Modulus, out: &mut [u8], first: usize, last: usize)
     requires { (1 ≤ first) × (first ≤ last) × (last ≤ length out.old) }
     ensures { out.new ≡ sealing m out.old first last }
 {
-    let check = digits::check_digit(m, &out[first - 1..last - 1]);
-    out[last - 1] = check;
-}
-
-// Copies as `put`, and behind that writes the check digit of the part that begins at place `part`.
-pub(crate) fn put_sealed(
-    m: Modulus,
-    src: &[u8],
-    first: usize,
-    last: usize,
-    out: &mut [u8],
-    to: usize,
-    part: usize,
-)
-    requires le_first { (1 ≤ first) × (first ≤ last) × (last ≤ length src.now) }
-    requires le_part { (1 ≤ part) × (part ≤ to) × (to + (last - first) < length out.old) }
-    ensures { out.new ≡ sealing m (laid out.old to src.now first last) part (to + (last - first) + 1) }
-{
-    put(src, first, last, out, to);
-    seal(m, out, part, to + (last - first) + 1);
+    out[last - 1] = digits::check_digit(m, &out[first - 1..last - 1]);
 }
 
 // Writes the barcode of a line over the first 44 bytes of out.
@@ -70,8 +46,11 @@ pub(crate) fn write_line(bar: &[u8], out: &mut [u8])
 {
     // bank, currency and the first free digits; the other free digits; general check, factor and cents
     put(bar, 1, 4, out, 1);
-    put_sealed(Modulus::Ten, bar, 20, 24, out, 5, 1);
-    put_sealed(Modulus::Ten, bar, 25, 34, out, 11, 11);
-    put_sealed(Modulus::Ten, bar, 35, 44, out, 22, 22);
+    put(bar, 20, 24, out, 5);
+    seal(Modulus::Ten, out, 1, 10);
+    put(bar, 25, 34, out, 11);
+    seal(Modulus::Ten, out, 11, 21);
+    put(bar, 35, 44, out, 22);
+    seal(Modulus::Ten, out, 22, 32);
     put(bar, 5, 19, out, 33);
 }

@@ -1,8 +1,6 @@
 -- Which dates DDMMAAAA and times HHMMSS there are. Assumes nothing.
-use Rattle.std.specs.Prelude.{Bool, false, not, cond, ◌&&◌, ◌||◌, List, [], ◌∷◌, ℕ, ◌-◌, ◌/◌, ◌%◌, eqb, leb, length, get_or}
+use Rattle.std.specs.Prelude.{Bool, false, not, cond, ◌&&◌, ◌||◌, List, [], ◌∷◌, ℕ, ◌-◌, ◌/◌, ◌%◌, eqb, leb, length, get_or, None, Option, Some}
 use Rattle.digits.specs.Numbers.{number_of}
-use Rattle.digits.specs.declared.spelling.Number.{Number}
-use Rattle.digits.specs.declared.spelling.Number.TheVariants.{Is, Not}
 use Rattle.calendar.specs.declared.Date.{Date}
 
 abbrev pub date : ℕ → ℕ → ℕ → Date
@@ -42,9 +40,9 @@ abbrev pub is_time : ℕ → Bool
 is_time n = leb (n / 10000) 23 && (leb (n / 100 % 100) 59 && leb (n % 100) 59)
 
 -- a number for which a test holds
-abbrev pub number_fits : (ℕ → Bool) → Number → Bool
-number_fits test (Is n) = test n
-number_fits test Not = false
+abbrev pub number_fits : (ℕ → Bool) → Option ℕ → Bool
+number_fits test (Some n) = test n
+number_fits test None = false
 
 -- eight digits that are a date, six that are a time
 unfoldable pub date_fits : List ℕ → Bool

@@ -42,19 +42,22 @@ fn days_before_month(month: u64, year: u64) -> u64
     let long_months = (before + before / AUGUST + 1) / 2;
     let by_turns = SHORT_MONTH * before + long_months;
     if before < FEBRUARY {
-        return by_turns;
+        by_turns
+    } else {
+        by_turns - (SHORT_MONTH - february_days(year))
     }
-    by_turns - (SHORT_MONTH - february_days(year))
 }
 
 // Days as a factor: up to the last factor they are it, later ones are folded into a round.
+#[tactic(auto, unfolding(crate::specs::Due::folded))]
 fn folded(days: u64) -> u64
     ensures { result ≡ folded days }
 {
     if days <= LAST_FACTOR {
-        return days;
+        days
+    } else {
+        RETURNS_TO + (days - RETURNS_TO) % ROUND_DAYS
     }
-    RETURNS_TO + (days - RETURNS_TO) % ROUND_DAYS
 }
 
 impl Date {
@@ -62,25 +65,23 @@ impl Date {
     pub fn day_number(self) -> u64
         ensures { result ≡ day_number self }
     {
-        if !self.exists() {
-            return 0;
+        if self.exists() {
+            days_before_year(self.year) + days_before_month(self.month, self.year) + self.day
+        } else {
+            0
         }
-        days_before_year(self.year) + days_before_month(self.month, self.year) + self.day
     }
 
     // The days after 7 October 1997; 0 up to that day.
+    #[tactic(auto, using(crate::proofs::laws::Factors::base_day), unfolding(crate::specs::Due::due_days))]
     fn due_days(self) -> u64
         ensures { result ≡ due_days self }
     {
-        let day = self.day_number();
-        if day < FACTOR_BASE {
-            0
-        } else {
-            day - FACTOR_BASE
-        }
+        self.day_number().saturating_sub(FACTOR_BASE)
     }
 
     // The one factor of a due date; 0 for one that has none.
+    #[tactic(auto, unfolding(crate::specs::Due::factor_of))]
     pub fn due_factor(self) -> u64
         ensures { result ≡ factor_of self }
     {

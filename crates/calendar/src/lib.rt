@@ -44,6 +44,7 @@ fn february_days(year: u64) -> u64
 }
 
 // From January 31 and 30 days take turns, and start anew with August; only February differs.
+#[tactic(auto, using(crate::proofs::laws::Days::turns))]
 fn days_in(month: u64, year: u64) -> u64
     requires { (1 ≤ month) × (month ≤ 12) }
     ensures { result ≡ get_or (months year) (month - 1) 0 }
@@ -54,29 +55,28 @@ fn days_in(month: u64, year: u64) -> u64
     SHORT_MONTH + (month + month / AUGUST) % 2
 }
 
-impl Date {
-    // The date that the number DDMMAAAA names, whether it exists or not.
-    pub fn of(ddmmaaaa: u64) -> Date
-        ensures { result ≡ date_of ddmmaaaa }
-    {
+// The date that the number DDMMAAAA names, whether it exists or not.
+impl From<u64> for Date {
+    ghost from_gives = { λ ddmmaaaa named. named ≡ date_of ddmmaaaa };
+
+    fn from(ddmmaaaa: u64) -> Self {
         Date {
             day: ddmmaaaa / 1000000,
             month: ddmmaaaa / 10000 % 100,
             year: ddmmaaaa % 10000,
         }
     }
+}
 
+impl Date {
     // Whether there is such a day, in the years 1997 to 2199.
+    #[tactic(auto, unfolding(crate::specs::Calendar::exists))]
     pub fn exists(self) -> bool
         ensures { result ≡ exists self }
     {
-        let in_years = (FIRST_YEAR <= self.year) & (self.year <= LAST_YEAR);
-        let in_months = (1 <= self.month) & (self.month <= MONTHS);
-        if in_years & in_months {
-            (1 <= self.day) & (self.day <= days_in(self.month, self.year))
-        } else {
-            false
-        }
+        let in_years = (FIRST_YEAR..=LAST_YEAR).contains(&self.year);
+        let in_months = (1..=MONTHS).contains(&self.month);
+        in_years & in_months && (1..=days_in(self.month, self.year)).contains(&self.day)
     }
 }
 
@@ -88,27 +88,17 @@ fn is_time(hhmmss: u64) -> bool
 }
 
 // Whether the bytes are a date DDMMAAAA that exists.
+#[tactic(auto, unfolding(crate::specs::Calendar::date_fits))]
 pub fn date_fits(part: &[u8]) -> bool
     ensures { result ≡ date_fits part.now }
 {
-    if part.len() != DATE_DIGITS {
-        return false;
-    }
-    match digits::number_of(part) {
-        digits::Number::Is(n) => Date::of(n).exists(),
-        digits::Number::Not => false,
-    }
+    part.len() == DATE_DIGITS && digits::number_of(part).is_some_and(|n| Date::from(n).exists())
 }
 
 // Whether the bytes are a time HHMMSS.
+#[tactic(auto, unfolding(crate::specs::Calendar::time_fits))]
 pub fn time_fits(part: &[u8]) -> bool
     ensures { result ≡ time_fits part.now }
 {
-    if part.len() != TIME_DIGITS {
-        return false;
-    }
-    match digits::number_of(part) {
-        digits::Number::Is(n) => is_time(n),
-        digits::Number::Not => false,
-    }
+    part.len() == TIME_DIGITS && digits::number_of(part).is_some_and(is_time)
 }

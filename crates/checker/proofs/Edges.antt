@@ -1,6 +1,7 @@
 -- What a line is read as, case by case as the code goes. Assumes nothing.
+use Rattle.std.specs.Prelude.{None}
 use mathlib.Core.Path.{◌≡◌, refl, sym, ap, ◌∙◌}
-use mathlib.Core.Bool.{true, false, ◌&&◌, and-false}
+use mathlib.Core.Bool.{false, and-false}
 use mathlib.Core.List.{List, [], ◌∷◌, ◌++◌, append-nil}
 use Prim.Native.Nat.{ℕ}
 use lib.Dec.{eqb}
@@ -8,11 +9,9 @@ use lib.ListN.{take, drop}
 use Rattle.layout.specs.declared.Direction.{Direction}
 use Rattle.layout.specs.declared.Direction.TheVariants.{Remittance, Return}
 use Rattle.layout.specs.declared.Record.{Record}
-use Rattle.layout.specs.declared.Record.TheVariants.{SegmentZ, BatchTrailer}
 use Rattle.layout.specs.declared.pairs.Batch.{Batch}
 use Rattle.checker.specs.Order.{payment, record_at, reading_of, follows, read_as}
-use Rattle.checker.specs.inner.Steps.{is_return, end_as}
-use Rattle.checker.specs.declared.order.Reading.TheVariants.{Line, Nothing}
+use Rattle.checker.specs.inner.Steps.{end_as}
 use Rattle.layout.specs.declared.shapes.Phase.{Phase}
 use Rattle.checker.proofs.laws.Payments.{row}
 use Rattle.checker.proofs.laws.Edges.{passed_by}
@@ -20,7 +19,7 @@ use Rattle.layout.specs.declared.shapes.Phase.TheVariants.{Start, Headed, Opened
 
 -- a detail is the one that is expected, of a payment's records
 module _ (segment : ℕ) where
-  at_reading : (n : ℕ) (b : Batch) (later : List Record) → read_as 51 segment later ≡ Nothing → reading_of (record_at n b) ≡ read_as 51 segment (record_at n b ++ later)
+  at_reading : (n : ℕ) (b : Batch) (later : List Record) → read_as 51 segment later ≡ None → reading_of (record_at n b) ≡ read_as 51 segment (record_at n b ++ later)
   at_reading n b later none = go (drop n (payment b)) refl
     where
       go : (rs : List Record) → drop n (payment b) ≡ rs → reading_of (take 1 rs) ≡ read_as 51 segment (take 1 rs ++ later)
@@ -30,20 +29,8 @@ module _ (segment : ℕ) where
   pub alone_reading : (n : ℕ) (b : Batch) → reading_of (record_at n b) ≡ read_as 51 segment (record_at n b)
   alone_reading n b = at_reading n b [] refl ∙ rw append-nil
 
-  pub more_reading : (b : Batch) → reading_of (record_at 0 b) ≡ read_as 51 segment (record_at 0 b ++ BatchTrailer ∷ [])
-  more_reading b = at_reading 0 b (BatchTrailer ∷ []) refl
-
-  -- behind a payment, Z or the next
-  pub z_reading : (d : Direction) (b : Batch) → is_return d && eqb segment 90 ≡ true → Line SegmentZ ≡ read_as 51 segment (follows Paid d b)
-  z_reading Remittance b e = cc
-  z_reading Return b e = rw e
-
-  pub next_reading : (d : Direction) (b : Batch) → is_return d && eqb segment 90 ≡ false → reading_of (record_at 0 b) ≡ read_as 51 segment (follows Paid d b)
-  next_reading Remittance b e = more_reading b
-  next_reading Return b e = rw e (more_reading b)
-
 -- any other line is no detail
-none_of : (b : Batch) (n type segment : ℕ) → eqb type 51 ≡ false → Nothing ≡ read_as type segment (record_at n b)
+none_of : (b : Batch) (n type segment : ℕ) → eqb type 51 ≡ false → None ≡ read_as type segment (record_at n b)
 none_of b n type segment e = sym (passed_by type segment b n [] e) ∙ rw append-nil
 
 pub no_detail : (p : Phase) (d : Direction) (b : Batch) (type segment : ℕ) → eqb type 51 ≡ false → end_as p type ≡ read_as type segment (follows p d b)

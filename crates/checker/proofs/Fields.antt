@@ -9,10 +9,8 @@ use lib.Dec.{leb, eqb}
 use lib.ListN.{length, get_or, drop}
 use lib.Seq.{slice, drop-cons}
 use Rattle.answer.specs.Rules.{Rule, rule, first_broken}
-use Rattle.answer.specs.declared.Refusal.{Refusal}
-use Rattle.answer.specs.declared.Answer.TheVariants.{Accepted, Refused}
-use Rattle.answer.specs.declared.Answer.{Answer}
-use Rattle.answer.proofs.laws.Order.{past, gone_on, stopped}
+use Rattle.answer.specs.Rules.{Answer}
+use Rattle.answer.proofs.laws.Order.{past}
 use Rattle.layout.specs.Table.{own, fields_of, record_bytes, type_place, number_field, segment_place, segment_field, segment_fields, batch_records, file_batches, file_records}
 use Rattle.layout.specs.Kinds.{same}
 use Rattle.layout.specs.Record.{rules_of, some_rules}
@@ -89,19 +87,9 @@ module _ (d : Direction) (rec : List ℕ) (l : length rec ≡ record_bytes) wher
 
 -- ---- a detail's head, and its body behind it
 
-module _ (r : Record) (s : Checker) (rec : List ℕ) {head : Answer} (e : head ≡ first_broken (detail_head r s rec)) where
-  abbrev fields : List Rule
-  fields = rules_of (behind segment_place r) s.dir rec
-
-  joined_up : first_broken (detail_head r s rec ++ fields) ≡ first_broken (rules_of_type Detail r s rec)
-  unfolding rules_of_type
-  joined_up =
-      let limit = rule 20 segment_place (leb (payment_count s.current + payments_of r) most_payments) in
-      ap (λ (l : List Rule). first_broken (bank s rec ∷ batch_number (ordinal s) rec ∷ reads 10 number_field (record_count s.current) rec ∷ l))
-      (append_assoc (rules_of (segment_fields r) s.dir rec) (limit ∷ []) fields)
-
-  pub behind_head : {o : Answer} → head ≡ Accepted → o ≡ first_broken fields → o ≡ first_broken (rules_of_type Detail r s rec)
-  behind_head h f = f ∙ gone_on (detail_head r s rec) fields (sym e ∙ h) ∙ joined_up
-
-  pub at_head : {q : Refusal} → head ≡ Refused q → head ≡ first_broken (rules_of_type Detail r s rec)
-  at_head h = h ∙ stopped (detail_head r s rec) fields _ (sym e ∙ h) ∙ joined_up
+pub head_joined : (r : Record) (s : Checker) (rec : List ℕ) → first_broken (detail_head r s rec ++ rules_of (behind segment_place r) s.dir rec) ≡ first_broken (rules_of_type Detail r s rec)
+unfolding rules_of_type
+head_joined r s rec =
+    let limit = rule 20 segment_place (leb (payment_count s.current + payments_of r) most_payments) in
+    ap (λ (l : List Rule). first_broken (bank s rec ∷ batch_number (ordinal s) rec ∷ reads 10 number_field (record_count s.current) rec ∷ l))
+    (append_assoc (rules_of (segment_fields r) s.dir rec) (limit ∷ []) (rules_of (behind segment_place r) s.dir rec))

@@ -1,5 +1,5 @@
 -- Laws on plain values, for the proofs of this crate's functions.
 mod Edges
 mod Fields
-mod Length
+mod Front
 pub mod laws

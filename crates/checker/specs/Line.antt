@@ -1,5 +1,5 @@
 -- The rules of a line, in the paper's order. Assumes nothing.
-use Rattle.std.specs.Prelude.{Bool, true, false, not, cond, ◌&&◌, ◌||◌, List, [], ◌∷◌, ◌++◌, ℕ, suc, ◌+◌, ◌-◌, leb, ltb, eqb, length, take}
+use Rattle.std.specs.Prelude.{Bool, true, false, not, cond, ◌&&◌, ◌||◌, List, [], ◌∷◌, ◌++◌, ℕ, suc, ◌+◌, ◌-◌, leb, ltb, eqb, length, take, None, Option, Some}
 use Rattle.answer.specs.Limits.{file_cents}
 use Rattle.answer.specs.Rules.{Rule, rule}
 use Rattle.digits.specs.Digits.{all_digits, place}
@@ -20,11 +20,9 @@ use Rattle.layout.specs.declared.Record.{Record}
 use Rattle.layout.specs.declared.shapes.LineType.{LineType}
 use Rattle.layout.specs.declared.shapes.LineType.TheVariants.{FileFirst, BatchFirst, Detail, BatchLast, FileLast}
 use Rattle.layout.specs.declared.shapes.House.{House}
-use Rattle.layout.specs.declared.shapes.House.TheVariants.{NoRules, RulesOfJ, OneId, ThreeIds, RulesOfO}
+use Rattle.layout.specs.declared.shapes.House.TheVariants.{RulesOfJ, OneId, ThreeIds, RulesOfO}
 use Rattle.checker.specs.Order.{follows, read_as, ended}
 use Rattle.checker.specs.Totals.{batch_count, record_count, payment_count, cent_sum, payments_of}
-use Rattle.checker.specs.declared.order.Reading.{Reading}
-use Rattle.checker.specs.declared.order.Reading.TheVariants.{Line, Nothing}
 use Rattle.checker.specs.declared.Checker.{Checker}
 
 -- ---- what a line asks
@@ -126,12 +124,12 @@ collection_rules rec =
     ∷ []
 
 -- what the house asks of a record behind its fields: the leftmost number first
-abbrev pub house_by : House → List ℕ → List Rule
-house_by NoRules rec = []
-house_by RulesOfJ rec = boleto_rules rec
-house_by OneId rec = id_rule holder_id rec ∷ []
-house_by ThreeIds rec = id_rule payer_id rec ∷ id_rule payee_id rec ∷ id_rule guarantor_id rec ∷ []
-house_by RulesOfO rec = collection_rules rec
+abbrev pub house_by : Option House → List ℕ → List Rule
+house_by None rec = []
+house_by (Some RulesOfJ) rec = boleto_rules rec
+house_by (Some OneId) rec = id_rule holder_id rec ∷ []
+house_by (Some ThreeIds) rec = id_rule payer_id rec ∷ id_rule payee_id rec ∷ id_rule guarantor_id rec ∷ []
+house_by (Some RulesOfO) rec = collection_rules rec
 
 abbrev pub house_rules : Record → List ℕ → List Rule
 house_rules r rec = house_by (shape_of r).house rec
@@ -199,16 +197,16 @@ record_in line = take record_bytes line
 abbrev pub ends_with : ℕ → ℕ → List ℕ → Rule
 ends_with p byte line = rule 5 p (eqb (place p line) byte)
 
-abbrev pub line_is : Checker → List ℕ → Reading
+abbrev pub line_is : Checker → List ℕ → Option Record
 line_is s rec = read_as (place type_place rec) (place segment_place rec) (follows s.phase s.dir s.batch)
 
-abbrev pub found : Reading → Bool
-found (Line r) = true
-found Nothing = false
+abbrev pub found : Option Record → Bool
+found (Some r) = true
+found None = false
 
-abbrev pub reading_rules : Reading → Checker → List ℕ → List Rule
-reading_rules (Line r) s rec = rules_as r s rec
-reading_rules Nothing s rec = []
+abbrev pub reading_rules : Option Record → Checker → List ℕ → List Rule
+reading_rules (Some r) s rec = rules_as r s rec
+reading_rules None s rec = []
 
 unfoldable pub type_rules : Checker → List ℕ → List Rule
 type_rules s rec = rule 6 type_place (found (line_is s rec)) ∷ reading_rules (line_is s rec) s rec

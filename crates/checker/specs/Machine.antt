@@ -1,10 +1,9 @@
 -- The machine of the paper: a checker's state, and a step over one line. Assumes nothing.
-use Rattle.std.specs.Prelude.{Bool, cond, ◌&&◌, List, ℕ, ◌+◌, ◌*◌, ◌^◌, leb, ltb, eqb}
+use Rattle.std.specs.Prelude.{Bool, cond, ◌&&◌, List, ℕ, ◌+◌, ◌*◌, ◌^◌, leb, ltb, eqb, Err, None, Ok, Option, Some}
 use Rattle.answer.specs.Limits.{file_cents}
 use Rattle.answer.specs.Rules.{first_broken, on_line, refused_as}
 use Rattle.answer.specs.declared.LineNo.{LineNo}
-use Rattle.answer.specs.declared.Answer.{Answer}
-use Rattle.answer.specs.declared.Answer.TheVariants.{Accepted, Refused}
+use Rattle.answer.specs.Rules.{Answer}
 use Rattle.digits.specs.Digits.{digit_byte, place}
 use Rattle.digits.specs.Numbers.{value}
 use Rattle.layout.specs.Pairs.{batch_of}
@@ -21,8 +20,6 @@ use Rattle.layout.specs.declared.pairs.Batch.TheVariants.{Unknown}
 use Rattle.layout.specs.Records.{shape_of}
 use Rattle.checker.specs.Totals.{none, add, counts_by, amount_digits, batch_count, record_count, payment_count, cent_sum}
 use Rattle.checker.specs.Line.{record_in, line_is, rules_of_line, most_batches, most_payments}
-use Rattle.checker.specs.declared.order.Reading.{Reading}
-use Rattle.checker.specs.declared.order.Reading.TheVariants.{Line, Nothing}
 use Rattle.layout.specs.declared.shapes.Phase.{Phase}
 use Rattle.layout.specs.declared.shapes.Phase.TheVariants.{Start}
 use Rattle.checker.specs.declared.totals.Totals.{Totals}
@@ -65,9 +62,9 @@ next_by_row x s rec = next_of_type x.line x s rec
 abbrev pub next : Record → Checker → List ℕ → Checker
 next r s rec = next_by_row (shape_of r) s rec
 
-abbrev pub moved : Reading → Checker → List ℕ → Checker
-moved (Line r) s rec = next r s rec
-moved Nothing s rec = s
+abbrev pub moved : Option Record → Checker → List ℕ → Checker
+moved (Some r) s rec = next r s rec
+moved None s rec = s
 
 -- ---- states that no run produces
 
@@ -100,8 +97,8 @@ stepped s a = record { state = s; answer = a }
 
 -- a refused line leaves the state
 abbrev pub answer_to : Answer → Checker → List ℕ → Stepped
-answer_to Accepted s rec = stepped (moved (line_is s rec) s rec) Accepted
-answer_to (Refused r) s rec = stepped s (on_line (line_of s) (Refused r))
+answer_to (Ok tt) s rec = stepped (moved (line_is s rec) s rec) (Ok tt)
+answer_to (Err r) s rec = stepped s (on_line (line_of s) (Err r))
 
 -- a state that no run produces is refused on no line
 unfoldable pub step_of : Checker → List ℕ → Stepped

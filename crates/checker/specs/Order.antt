@@ -1,5 +1,5 @@
 -- The order of lines: which may follow, and what a line is read as. Assumes nothing.
-use Rattle.std.specs.Prelude.{Bool, true, false, not, cond, ◌&&◌, ◌||◌, List, [], ◌∷◌, ◌++◌, ℕ, eqb, take, drop}
+use Rattle.std.specs.Prelude.{Bool, true, false, not, cond, ◌&&◌, ◌||◌, List, [], ◌∷◌, ◌++◌, ℕ, eqb, take, drop, None, Option, Some}
 use Rattle.layout.specs.Records.{is_one_of, type_of, letter_z}
 use Rattle.layout.specs.declared.Direction.{Direction}
 use Rattle.layout.specs.declared.Direction.TheVariants.{Remittance, Return}
@@ -9,8 +9,6 @@ use Rattle.layout.specs.declared.pairs.Batch.{Batch}
 use Rattle.layout.specs.declared.pairs.Batch.TheVariants.{Credit, Boleto, Unknown, Collection}
 use Rattle.layout.specs.declared.shapes.Phase.{Phase}
 use Rattle.layout.specs.declared.shapes.Phase.TheVariants.{Start, Headed, Opened, Within, Paid, BehindZ, Closed, Ended}
-use Rattle.checker.specs.declared.order.Reading.{Reading}
-use Rattle.checker.specs.declared.order.Reading.TheVariants.{Line, Nothing}
 
 -- the records of a payment
 abbrev pub payment : Batch → List Record
@@ -24,9 +22,9 @@ abbrev pub record_at : ℕ → Batch → List Record
 record_at n b = take 1 (drop n (payment b))
 
 -- the first of records, or none
-abbrev pub reading_of : List Record → Reading
-reading_of [] = Nothing
-reading_of (r ∷ rs) = Line r
+abbrev pub reading_of : List Record → Option Record
+reading_of [] = None
+reading_of (r ∷ rs) = Some r
 
 -- the lines that may follow
 abbrev pub follows : Phase → Direction → Batch → List Record
@@ -58,6 +56,6 @@ abbrev pub suits : ℕ → ℕ → Record → Bool
 suits type segment r = (not (optional r) || eqb segment letter_z) && eqb type (type_of r)
 
 -- what a line of this type and segment is read as, of the lines that may follow
-abbrev pub read_as : ℕ → ℕ → List Record → Reading
-read_as type segment [] = Nothing
-read_as type segment (r ∷ rs) = cond (suits type segment r) (Line r) (read_as type segment rs)
+abbrev pub read_as : ℕ → ℕ → List Record → Option Record
+read_as type segment [] = None
+read_as type segment (r ∷ rs) = cond (suits type segment r) (Some r) (read_as type segment rs)

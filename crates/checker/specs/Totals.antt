@@ -1,5 +1,5 @@
 -- What lines count: batches and records, and payments with the sum of their amounts, the live ones and the withdrawn ones apart. Assumes nothing.
-use Rattle.std.specs.Prelude.{Bool, not, cond, List, [], ◌∷◌, ℕ, ◌+◌, eqb, length}
+use Rattle.std.specs.Prelude.{Bool, not, cond, List, [], ◌∷◌, ℕ, ◌+◌, eqb, length, Option}
 use Rattle.digits.specs.Digits.{digit_byte, place}
 use Rattle.digits.specs.Numbers.{value}
 use Rattle.layout.specs.Field.{Field, part}
@@ -110,10 +110,10 @@ abbrev pub tallied : Bool → List Field → List ℕ → Tally
 tallied such [] rec = no_payments
 tallied such (f ∷ fs) rec = only such (tally 1 (value (part f rec)))
 
-abbrev pub live_by : Amount → List ℕ → Live
+abbrev pub live_by : Option Amount → List ℕ → Live
 live_by a rec = live (tallied (not (withdraws rec)) (amount_field a) rec)
 
-abbrev pub withdrawn_by : Amount → List ℕ → Withdrawn
+abbrev pub withdrawn_by : Option Amount → List ℕ → Withdrawn
 withdrawn_by a rec = withdrawn (tallied (withdraws rec) (amount_field a) rec)
 
 abbrev pub counts_by : Shape → List ℕ → Totals

@@ -11,17 +11,16 @@ mod order;
 mod reads;
 mod totals;
 
-ghost use Rattle.std.specs.Prelude.{◌≡◌, cond, length};
-ghost use Rattle.answer.specs.Rules.{no_line, first_broken, on_line};
-ghost use Rattle.layout.specs.Table.{record_bytes};
-ghost use Rattle.checker.specs.Line.{type_rules};
-ghost use Rattle.checker.specs.Machine.{line_of, sound, stepped, answer_to, step_of, start};
-ghost use Rattle.checker.specs.inner.Steps.{Bounded};
+ghost use Rattle.std.specs.Prelude.{◌≡◌, cond};
+ghost use Rattle.answer.specs.Rules.{no_line, refusal, first_broken};
+ghost use Rattle.checker.specs.Line.{record_in, rules_of_line};
+ghost use Rattle.checker.specs.Machine.{line_of, sound, step_of, start};
+ghost use Rattle.checker.specs.inner.Steps.{Bounded, behind_by};
 
-use answer::{Answer, LineNo, NO_LINE, numbers};
-use layout::{Batch, Direction, Phase, RECORD_BYTES, places};
+use answer::{Answer, LineNo, NO_LINE, Refusal, numbers};
+use layout::{Batch, Direction, Phase, places};
 pub use limits::{HEADER_BATCH, MOST_BATCHES, MOST_PAYMENTS, TRAILER_BATCH};
-pub use order::{Reading, is_ended, record_at, records_of};
+pub use order::{is_ended, record_at, records_of};
 pub use totals::{Live, Totals, Withdrawn};
 
 pub const LINE_BYTES: usize = 242;
@@ -42,6 +41,17 @@ pub struct Checker {
 pub struct Stepped {
     pub state: Checker,
     pub answer: Answer,
+}
+
+// A refusal on no line.
+fn refusal(number: u8, place: usize) -> Refusal
+    ensures { result ≡ refusal number no_line place }
+{
+    Refusal {
+        number,
+        line: NO_LINE,
+        place,
+    }
 }
 
 impl Checker {
@@ -67,39 +77,19 @@ impl Checker {
         }
     }
 
-    // A line that is refused: the refusal names it, and the state is left.
-    fn refuse(self, answer: Answer) -> Stepped
+    // The state behind a line that is accepted; a refusal names no line yet. What the record is read
+    // as is asked once, and its row is handed on.
+    fn behind(self, line: &[u8]) -> Result<Checker, Refusal>
         requires { Bounded self }
-        ensures { result ≡ stepped self (on_line (line_of self) answer) }
+        ensures { result ≡ behind_by (first_broken (rules_of_line self line.now)) self (record_in line.now) }
     {
-        Stepped {
-            state: self,
-            answer: answer.on_line(self.line_no()),
-        }
-    }
-
-    // A record whose bytes and line end are right. What it is read as is asked once, and its row is
-    // handed on.
-    fn step_record(self, rec: &[u8]) -> Stepped
-        requires rec_len { length rec.now ≡ record_bytes }
-        requires bounded { Bounded self }
-        ensures { result ≡ answer_to (first_broken (type_rules self rec.now)) self rec.now }
-    {
-        let reading = self.line_is(rec);
-        match reading {
-            Reading::Nothing => self.refuse(Answer::refused(numbers::TYPE, places::TYPE)),
-            Reading::Line(which) => {
-                let shape = layout::shape_of(which);
-                let answer = self.check_as(which, shape, rec);
-                match answer {
-                    Answer::Accepted => Stepped {
-                        state: self.after(shape, rec),
-                        answer,
-                    },
-                    Answer::Refused(_) => self.refuse(answer),
-                }
-            }
-        }
+        let rec = self.check_front(line)?;
+        let which = self
+            .line_is(rec)
+            .ok_or(refusal(numbers::TYPE, places::TYPE))?;
+        let shape = layout::shape_of(which);
+        self.check_as(which, shape, rec)?;
+        Ok(self.after(shape, rec))
     }
 
     // A line: a refused one leaves the state.
@@ -109,13 +99,18 @@ impl Checker {
         if !self.is_sound() {
             return Stepped {
                 state: self,
-                answer: Answer::refused(numbers::OUT_OF_TURN, 0),
+                answer: answer::refused(numbers::OUT_OF_TURN, 0),
             };
         }
-        let front = self.check_front(line);
-        match front {
-            Answer::Accepted => self.step_record(&line[0..RECORD_BYTES]),
-            Answer::Refused(_) => self.refuse(front),
+        match self.behind(line) {
+            Ok(state) => Stepped {
+                state,
+                answer: Ok(()),
+            },
+            Err(refusal) => Stepped {
+                state: self,
+                answer: answer::on_line(Err(refusal), self.line_no()),
+            },
         }
     }
 

@@ -30,12 +30,12 @@ impl Checker {
         ensures { result ≡ sound self }
     {
         (self.closed.batches <= MOST_BATCHES)
-            & (self.closed.records.at_most(FILE_RECORDS)
+            & ((self.closed.records <= FILE_RECORDS)
                 & ((self.closed.payments() <= FILE_PAYMENTS)
-                    & (self.closed.cents().below(FILE_CENTS)
+                    & ((self.closed.cents() < FILE_CENTS)
                         & ((self.current.batches <= 1)
-                            & (self.current.records.at_most(BATCH_RECORDS)
+                            & ((self.current.records <= BATCH_RECORDS)
                                 & ((self.current.payments() <= MOST_PAYMENTS)
-                                    & self.current.cents().at_most(BATCH_CENTS)))))))
+                                    & (self.current.cents() <= BATCH_CENTS)))))))
     }
 }

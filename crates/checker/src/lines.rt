@@ -1,19 +1,17 @@
 // The rules of a line, in the paper's order.
-ghost use Rattle.std.specs.Prelude.{◌≡◌, ◌∷◌, [], length};
+ghost use Rattle.std.specs.Prelude.{◌≡◌, ◌∷◌, [], IfOk};
 ghost use Rattle.answer.specs.Rules.{first_broken};
 ghost use Rattle.layout.specs.Records.{shape_of};
-ghost use Rattle.layout.specs.Table.{record_bytes};
 ghost use Rattle.layout.specs.declared.shapes.LineType.TheVariants.{FileFirst, BatchFirst, Detail, BatchLast, FileLast};
-ghost use Rattle.checker.specs.Line.{bank, batch_number, rules_of_type, rules_as, line_is};
-ghost use Rattle.checker.specs.inner.Steps.{front_rules, Bounded};
+ghost use Rattle.checker.specs.Line.{bank, batch_number, rules_of_type, rules_as, line_is, record_in};
+ghost use Rattle.checker.specs.inner.Steps.{answer_of, front_rules, Bounded};
 
 use super::house::check_house;
 use super::limits::{HEADER_BATCH, MOST_BATCHES, MOST_PAYMENTS, TRAILER_BATCH};
-use super::order::Reading;
 use super::reads::{check_cents, check_number, check_records};
 use super::totals::payments_by;
-use super::{Checker, LINE_BYTES, order};
-use answer::{Answer, numbers};
+use super::{Checker, LINE_BYTES, order, refusal};
+use answer::{Answer, Refusal, numbers};
 use layout::{FIELDS, LineType, RECORD_BYTES, Record, Shape, names, places};
 
 // The index of the first field behind the type, and behind the segment.
@@ -28,8 +26,7 @@ const FILE_BATCHES: usize = names::FILE_TRAILER_BATCHES.1;
 
 const FILE_RECORDS: usize = names::FILE_TRAILER_RECORDS.1;
 
-fn check_batch(k: u64, rec: &[u8]) -> Answer
-    requires { length rec.now ≡ record_bytes }
+fn check_batch(k: u64, rec: &[u8; RECORD_BYTES]) -> Answer
     ensures { result ≡ first_broken (batch_number k rec.now ∷ []) }
 {
     check_number(
@@ -41,8 +38,7 @@ fn check_batch(k: u64, rec: &[u8]) -> Answer
 }
 
 impl Checker {
-    fn check_bank(self, rec: &[u8]) -> Answer
-        requires { length rec.now ≡ record_bytes }
+    fn check_bank(self, rec: &[u8; RECORD_BYTES]) -> Answer
         ensures { result ≡ first_broken (bank self rec.now ∷ []) }
     {
         check_number(
@@ -53,40 +49,33 @@ impl Checker {
         )
     }
 
-    fn check_file_header(self, rec: &[u8]) -> Answer
-        requires { length rec.now ≡ record_bytes }
+    fn check_file_header(self, rec: &[u8; RECORD_BYTES]) -> Answer
         ensures { result ≡ first_broken (rules_of_type FileFirst Record.FileHeader self rec.now) }
     {
-        let dir = self.dir;
         let spelled = digits::all_digits(&rec[places::BANK_FROM - 1..places::BANK_TO]);
-        let bank = Answer::test(numbers::NON_DIGIT, places::BANK_FROM, spelled);
+        let bank = answer::test(numbers::NON_DIGIT, places::BANK_FROM, spelled);
         let batch = check_batch(HEADER_BATCH, rec);
-        let fields = walk::check_fields(rec, Record::FileHeader, dir, BEHIND_TYPE, FIELDS);
-        bank.and_then(batch.and_then(fields))
+        let fields = walk::check_fields(rec, Record::FileHeader, self.dir, BEHIND_TYPE, FIELDS);
+        bank.and(batch.and(fields))
     }
 
-    fn check_batch_header(self, rec: &[u8]) -> Answer
-        requires rec_len { length rec.now ≡ record_bytes }
-        requires bounded { Bounded self }
+    fn check_batch_header(self, rec: &[u8; RECORD_BYTES]) -> Answer
+        requires { Bounded self }
         ensures { result ≡ first_broken (rules_of_type BatchFirst Record.BatchHeader self rec.now) }
     {
-        let dir = self.dir;
         let ordinal = self.closed.batches() + 1;
-        let limit = Answer::test(numbers::TOO_MANY, places::TYPE, ordinal <= MOST_BATCHES);
+        let limit = answer::test(numbers::TOO_MANY, places::TYPE, ordinal <= MOST_BATCHES);
         let bank = self.check_bank(rec);
         let batch = check_batch(ordinal, rec);
-        let fields = walk::check_fields(rec, Record::BatchHeader, dir, BEHIND_TYPE, FIELDS);
-        limit.and_then(bank.and_then(batch.and_then(fields)))
+        let fields = walk::check_fields(rec, Record::BatchHeader, self.dir, BEHIND_TYPE, FIELDS);
+        limit.and(bank.and(batch.and(fields)))
     }
 
-    // An answer handed on is copied: the head answers by itself.
-    fn check_detail(self, which: Record, shape: Shape, rec: &[u8]) -> Answer
-        requires rec_len { length rec.now ≡ record_bytes }
+    fn check_detail(self, which: Record, shape: Shape, rec: &[u8; RECORD_BYTES]) -> Answer
         requires bounded { Bounded self }
         requires shape_value { (shape ≡ shape_of which) × (shape.line ≡ Detail) }
         ensures { result ≡ first_broken (rules_of_type Detail which self rec.now) }
     {
-        let dir = self.dir;
         let bank = self.check_bank(rec);
         let batch = check_batch(self.closed.batches() + 1, rec);
         let place = &rec[places::NUMBER_FROM - 1..places::NUMBER_TO];
@@ -97,28 +86,22 @@ impl Checker {
             place,
         );
         let fits = rec[places::SEGMENT - 1] == shape.letter;
-        let segment = Answer::test(numbers::SEGMENT, places::SEGMENT, fits);
-        let amount = shape.amount;
-        let few = self.current.payments() + payments_by(amount) <= MOST_PAYMENTS;
-        let limit = Answer::test(numbers::TOO_MANY, places::SEGMENT, few);
-        let head = bank.and_then(batch.and_then(number.and_then(segment.and_then(limit))));
-        match head {
-            Answer::Accepted => walk::check_fields(rec, which, dir, BEHIND_SEGMENT, FIELDS),
-            Answer::Refused(_) => head,
-        }
+        let segment = answer::test(numbers::SEGMENT, places::SEGMENT, fits);
+        let few = self.current.payments() + payments_by(shape.amount) <= MOST_PAYMENTS;
+        let limit = answer::test(numbers::TOO_MANY, places::SEGMENT, few);
+        bank.and(batch.and(number.and(segment.and(limit))))?;
+        walk::check_fields(rec, which, self.dir, BEHIND_SEGMENT, FIELDS)
     }
 
-    fn check_batch_trailer(self, rec: &[u8]) -> Answer
-        requires rec_len { length rec.now ≡ record_bytes }
-        requires bounded { Bounded self }
+    fn check_batch_trailer(self, rec: &[u8; RECORD_BYTES]) -> Answer
+        requires { Bounded self }
         ensures { result ≡ first_broken (rules_of_type BatchLast Record.BatchTrailer self rec.now) }
     {
-        let dir = self.dir;
         let which = Record::BatchTrailer;
         let bank = self.check_bank(rec);
         let batch = check_batch(self.closed.batches() + 1, rec);
         let behind = BATCH_RECORDS + 1;
-        let fields = walk::check_parts(rec, which, dir, BEHIND_TYPE, behind, behind);
+        let fields = walk::check_parts(rec, which, self.dir, BEHIND_TYPE, behind, behind);
         let place = &rec[places::FIRST_COUNT_FROM - 1..places::FIRST_COUNT_TO];
         let records = check_records(
             numbers::COUNT,
@@ -132,23 +115,21 @@ impl Checker {
             self.current.cents(),
             &rec[places::SUM_FROM - 1..places::SUM_TO],
         );
-        let total = Answer::test(
+        let total = answer::test(
             numbers::FILE_SUM,
             places::SUM_FROM,
             self.closed.cents().fit_a_file(self.current.cents()),
         );
-        let front = fields.front;
-        let rest = fields.rest;
-        let body = front.and_then(records.and_then(rest).and_then(sum.and_then(total)));
-        bank.and_then(batch.and_then(body))
+        let body = fields
+            .front
+            .and(records.and(fields.rest).and(sum.and(total)));
+        bank.and(batch.and(body))
     }
 
-    fn check_file_trailer(self, rec: &[u8]) -> Answer
-        requires rec_len { length rec.now ≡ record_bytes }
-        requires bounded { Bounded self }
+    fn check_file_trailer(self, rec: &[u8; RECORD_BYTES]) -> Answer
+        requires { Bounded self }
         ensures { result ≡ first_broken (rules_of_type FileLast Record.FileTrailer self rec.now) }
     {
-        let dir = self.dir;
         let which = Record::FileTrailer;
         let bank = self.check_bank(rec);
         let batch = check_batch(TRAILER_BATCH, rec);
@@ -157,7 +138,7 @@ impl Checker {
         let fields = walk::check_parts(
             rec,
             which,
-            dir,
+            self.dir,
             BEHIND_TYPE,
             behind_batches,
             behind_records,
@@ -176,22 +157,18 @@ impl Checker {
             self.closed.records().and_one(),
             place,
         );
-        let front = fields.front;
-        let middle = fields.middle;
-        let rest = fields.rest;
-        let body = front.and_then(batches.and_then(middle).and_then(records.and_then(rest)));
-        bank.and_then(batch.and_then(body))
+        let behind = records.and(fields.rest);
+        let body = fields.front.and(batches.and(fields.middle).and(behind));
+        bank.and(batch.and(body))
     }
 
     // The rules behind the type, by the type of the line.
-    fn check_type(self, which: Record, shape: Shape, rec: &[u8]) -> Answer
-        requires rec_len { length rec.now ≡ record_bytes }
+    fn check_type(self, which: Record, shape: Shape, rec: &[u8; RECORD_BYTES]) -> Answer
         requires bounded { Bounded self }
         requires shape_value { shape ≡ shape_of which }
         ensures { result ≡ first_broken (rules_of_type (shape_of which).line which self rec.now) }
     {
-        let line = shape.line;
-        match line {
+        match shape.line {
             LineType::FileFirst => self.check_file_header(rec),
             LineType::BatchFirst => self.check_batch_header(rec),
             LineType::Detail => self.check_detail(which, shape, rec),
@@ -201,51 +178,37 @@ impl Checker {
     }
 
     // Those, and then what the house asks, of a line that is read as this record.
-    pub(crate) fn check_as(self, which: Record, shape: Shape, rec: &[u8]) -> Answer
-        requires rec_len { length rec.now ≡ record_bytes }
+    pub(crate) fn check_as(self, which: Record, shape: Shape, rec: &[u8; RECORD_BYTES]) -> Answer
         requires bounded { Bounded self }
         requires shape_value { shape ≡ shape_of which }
         ensures { result ≡ first_broken (rules_as which self rec.now) }
     {
-        let house = shape.house;
-        let own = self.check_type(which, shape, rec);
-        match own {
-            Answer::Accepted => check_house(house, rec),
-            Answer::Refused(_) => own,
-        }
+        self.check_type(which, shape, rec)?;
+        check_house(shape.house, rec)
     }
 
     // What a record is read as.
-    pub(crate) fn line_is(self, rec: &[u8]) -> Reading
-        requires { length rec.now ≡ record_bytes }
+    pub(crate) fn line_is(self, rec: &[u8; RECORD_BYTES]) -> Option<Record>
         ensures { result ≡ line_is self rec.now }
     {
-        let phase = self.phase;
-        let dir = self.dir;
-        let batch = self.batch;
-        order::line_reading(
-            phase,
-            dir,
-            batch,
-            rec[places::TYPE - 1],
-            rec[places::SEGMENT - 1],
-        )
+        let kind = rec[places::TYPE - 1];
+        let segment = rec[places::SEGMENT - 1];
+        order::line_reading(self.phase, self.dir, self.batch, kind, segment)
     }
 
-    // The rules of a line up to its type.
-    pub(crate) fn check_front(self, line: &[u8]) -> Answer
-        ensures { result ≡ first_broken (front_rules self line.now) }
+    // The rules of a line up to its type; where they are kept, its record.
+    pub(crate) fn check_front(self, line: &[u8]) -> Result<&[u8; RECORD_BYTES], Refusal>
+        ensures answer { answer_of result ≡ first_broken (front_rules self line.now) }
+        ensures record { IfOk result (λ rec. rec.now ≡ record_in line.now) }
     {
-        let phase = self.phase;
-        if order::is_ended(phase) {
-            return Answer::refused(numbers::BEHIND_END, 0);
-        }
-        if line.len() != LINE_BYTES {
-            return Answer::refused(numbers::WRONG_LENGTH, 0);
-        }
-        let clean = walk::check_bytes(&line[0..RECORD_BYTES]);
-        let cr = Answer::test(numbers::LINE_END, places::CR, line[places::CR - 1] == b'\r');
-        let lf = Answer::test(numbers::LINE_END, places::LF, line[places::LF - 1] == b'\n');
-        clean.and_then(cr.and_then(lf))
+        answer::test(numbers::BEHIND_END, 0, !order::is_ended(self.phase))?;
+        let rec = match line.first_chunk::<RECORD_BYTES>() {
+            Some(rec) if line.len() == LINE_BYTES => rec,
+            _ => return Err(refusal(numbers::WRONG_LENGTH, 0)),
+        };
+        walk::check_bytes(rec)?;
+        answer::test(numbers::LINE_END, places::CR, line[places::CR - 1] == b'\r')?;
+        answer::test(numbers::LINE_END, places::LF, line[places::LF - 1] == b'\n')?;
+        Ok(rec)
     }
 }

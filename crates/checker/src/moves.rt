@@ -1,17 +1,15 @@
 // The state behind an accepted line.
-ghost use Rattle.std.specs.Prelude.{◌≡◌, length};
+ghost use Rattle.std.specs.Prelude.{◌≡◌};
 ghost use Rattle.layout.specs.declared.shapes.LineType.TheVariants.{FileFirst, BatchFirst, BatchLast, FileLast};
-ghost use Rattle.layout.specs.Table.{record_bytes};
 ghost use Rattle.checker.specs.Totals.{counts_by};
-ghost use Rattle.checker.specs.Machine.{state, direction_of, in_batch, next_of_type, next_by_row};
+ghost use Rattle.checker.specs.Machine.{direction_of, in_batch, next_of_type, next_by_row};
 ghost use Rattle.checker.specs.inner.Steps.{Room};
 
 use super::Checker;
 use super::totals::{Totals, counted};
-use layout::{Batch, Direction, LineType, Phase, Shape, places};
+use layout::{Batch, Direction, LineType, RECORD_BYTES, Shape, places};
 
-fn direction_of(rec: &[u8]) -> Direction
-    requires { length rec.now ≡ record_bytes }
+fn direction_of(rec: &[u8; RECORD_BYTES]) -> Direction
     ensures { result ≡ direction_of rec.now }
 {
     if rec[places::DIRECTION - 1] == b'2' {
@@ -23,100 +21,78 @@ fn direction_of(rec: &[u8]) -> Direction
 
 impl Checker {
     // Behind the file header, which gives direction and bank.
-    fn headed(self, shape: Shape, rec: &[u8]) -> Checker
-        requires rec_len { length rec.now ≡ record_bytes }
-        requires room { Room self (counts_by shape rec.now) }
+    fn headed(self, shape: Shape, rec: &[u8; RECORD_BYTES]) -> Checker
+        requires { Room self (counts_by shape rec.now) }
         ensures { result ≡ next_of_type FileFirst shape self rec.now }
     {
-        let phase = shape.after;
-        let closed = self.closed;
-        let current = self.current;
         Checker {
-            phase,
+            phase: shape.after,
             dir: direction_of(rec),
             batch: Batch::Unknown,
             bank: digits::value(&rec[places::BANK_FROM - 1..places::BANK_TO]),
-            closed: closed.plus(counted(shape, rec)),
-            current,
-        }
-    }
-
-    // Behind any other line: direction and bank stay.
-    fn behind(self, phase: Phase, batch: Batch, closed: Totals, current: Totals) -> Checker
-        ensures { result ≡ state phase self.dir batch self.bank closed current }
-    {
-        let dir = self.dir;
-        Checker {
-            phase,
-            dir,
-            batch,
-            bank: self.bank,
-            closed,
-            current,
+            closed: self.closed.plus(counted(shape, rec)),
+            ..self
         }
     }
 
     // A line of a batch counts in the open batch.
-    fn in_batch(self, shape: Shape, batch: Batch, rec: &[u8]) -> Checker
-        requires rec_len { length rec.now ≡ record_bytes }
-        requires room { Room self (counts_by shape rec.now) }
+    fn in_batch(self, shape: Shape, batch: Batch, rec: &[u8; RECORD_BYTES]) -> Checker
+        requires { Room self (counts_by shape rec.now) }
         ensures { result ≡ in_batch shape batch self rec.now }
     {
-        let phase = shape.after;
-        let closed = self.closed;
-        let current = self.current;
-        self.behind(phase, batch, closed, current.plus(counted(shape, rec)))
+        Checker {
+            phase: shape.after,
+            batch,
+            current: self.current.plus(counted(shape, rec)),
+            ..self
+        }
     }
 
     // A batch header gives the kind of batch.
-    fn opened(self, shape: Shape, rec: &[u8]) -> Checker
-        requires rec_len { length rec.now ≡ record_bytes }
-        requires room { Room self (counts_by shape rec.now) }
+    fn opened(self, shape: Shape, rec: &[u8; RECORD_BYTES]) -> Checker
+        requires { Room self (counts_by shape rec.now) }
         ensures { result ≡ next_of_type BatchFirst shape self rec.now }
     {
-        let dir = self.dir;
         let service = &rec[places::SERVICE_FROM - 1..places::SERVICE_TO];
         let form = &rec[places::SERVICE_TO..places::FORM_TO];
-        self.in_batch(shape, layout::batch_of(dir, service, form), rec)
+        self.in_batch(shape, layout::batch_of(self.dir, service, form), rec)
     }
 
     // Behind a batch trailer the open batch counts among the closed ones.
-    fn closed_batch(self, shape: Shape, rec: &[u8]) -> Checker
-        requires rec_len { length rec.now ≡ record_bytes }
-        requires room { Room self (counts_by shape rec.now) }
+    fn closed_batch(self, shape: Shape, rec: &[u8; RECORD_BYTES]) -> Checker
+        requires { Room self (counts_by shape rec.now) }
         ensures { result ≡ next_of_type BatchLast shape self rec.now }
     {
-        let phase = shape.after;
-        let closed = self.closed;
-        let current = self.current;
-        let all = closed.plus(current.plus(counted(shape, rec)));
-        self.behind(phase, Batch::Unknown, all, Totals::none())
+        Checker {
+            phase: shape.after,
+            batch: Batch::Unknown,
+            closed: self.closed.plus(self.current.plus(counted(shape, rec))),
+            current: Totals::none(),
+            ..self
+        }
     }
 
-    fn ended(self, shape: Shape, rec: &[u8]) -> Checker
-        requires rec_len { length rec.now ≡ record_bytes }
-        requires room { Room self (counts_by shape rec.now) }
+    fn ended(self, shape: Shape, rec: &[u8; RECORD_BYTES]) -> Checker
+        requires { Room self (counts_by shape rec.now) }
         ensures { result ≡ next_of_type FileLast shape self rec.now }
     {
-        let phase = shape.after;
-        let closed = self.closed;
-        let current = self.current;
-        let all = closed.plus(counted(shape, rec));
-        self.behind(phase, Batch::Unknown, all, current)
+        Checker {
+            phase: shape.after,
+            batch: Batch::Unknown,
+            closed: self.closed.plus(counted(shape, rec)),
+            ..self
+        }
     }
 
     // The state behind an accepted line that is read as a record of this shape.
-    pub(crate) fn after(self, shape: Shape, rec: &[u8]) -> Checker
-        requires rec_len { length rec.now ≡ record_bytes }
-        requires room { Room self (counts_by shape rec.now) }
+    pub(crate) fn after(self, shape: Shape, rec: &[u8; RECORD_BYTES]) -> Checker
+        requires { Room self (counts_by shape rec.now) }
         ensures { result ≡ next_by_row shape self rec.now }
     {
-        let line = shape.line;
-        let batch = self.batch;
-        match line {
+        match shape.line {
             LineType::FileFirst => self.headed(shape, rec),
             LineType::BatchFirst => self.opened(shape, rec),
-            LineType::Detail => self.in_batch(shape, batch, rec),
+            LineType::Detail => self.in_batch(shape, self.batch, rec),
             LineType::BatchLast => self.closed_batch(shape, rec),
             LineType::FileLast => self.ended(shape, rec),
         }

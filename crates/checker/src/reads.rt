@@ -4,15 +4,14 @@ ghost use Rattle.answer.specs.Rules.{first_broken};
 ghost use Rattle.checker.specs.inner.Steps.{digits_read};
 
 use answer::{Answer, Cents, RecordCount};
-use digits::Number;
 
 // The rule that digits give the number k: a bank, the ordinal of a batch, a count of batches.
 pub(crate) fn check_number(number: u8, place: usize, k: u64, part: &[u8]) -> Answer
     ensures { result ≡ first_broken (digits_read number place k part.now ∷ []) }
 {
     match digits::number_of(part) {
-        Number::Is(n) => Answer::test(number, place, n == k),
-        Number::Not => Answer::refused(number, place),
+        Some(n) => answer::test(number, place, n == k),
+        None => answer::refused(number, place),
     }
 }
 

@@ -9,7 +9,7 @@ ghost use Rattle.checker.specs.Totals.{no_payments, none, add_tally, add, batch_
 ghost use Rattle.checker.specs.inner.Steps.{FitTally, FitSum};
 
 use answer::{Cents, RecordCount};
-use layout::{Amount, LineType, Shape, places};
+use layout::{Amount, LineType, RECORD_BYTES, Shape, places};
 
 // Payments, and the sum of their amounts.
 #[derive(Clone, Copy)]
@@ -39,9 +39,8 @@ const AMOUNT_DIGITS: usize = 15;
 const WITHDRAWAL: u8 = b'9';
 
 // An amount, from this place on.
-pub(crate) fn amount(rec: &[u8], place: usize) -> Cents
-    requires rec_len { length rec.now ≡ record_bytes }
-    requires le_place { (1 ≤ place) × (place + amount_digits ≤ record_bytes) }
+pub(crate) fn amount(rec: &[u8; RECORD_BYTES], place: usize) -> Cents
+    requires { (1 ≤ place) × (place + amount_digits ≤ record_bytes) }
     ensures { (result.0 ≡ value (take amount_digits (drop (place - 1) rec.now))) × (result.0 < 10 ^ amount_digits) }
 {
     Cents(digits::value(&rec[place - 1..place - 1 + AMOUNT_DIGITS]))
@@ -141,7 +140,10 @@ impl Totals {
     pub fn payments(self) -> u64
         ensures { result ≡ capped (payment_count self) }
     {
-        answer::capped_sum(self.live.0.payments, self.withdrawn.0.payments)
+        self.live
+            .0
+            .payments
+            .saturating_add(self.withdrawn.0.payments)
     }
 
     // The sum of all their amounts, capped like that.
@@ -178,42 +180,32 @@ impl Totals {
 fn batches_by(line: LineType) -> u64
     ensures { result ≡ opens line }
 {
-    match line {
-        LineType::FileFirst => 0,
-        LineType::BatchFirst => 1,
-        LineType::Detail => 0,
-        LineType::BatchLast => 0,
-        LineType::FileLast => 0,
-    }
+    (line == LineType::BatchFirst) as u64
 }
 
 // The payments that a line begins: one, if it has an amount.
-pub(crate) fn payments_by(amount: Amount) -> u64
+pub(crate) fn payments_by(amount: Option<Amount>) -> u64
     ensures { (result ≡ length (amount_field amount)) × (result ≤ 1) }
 {
     match amount {
-        Amount::NoAmount => 0,
-        Amount::AmountOfA => 1,
-        Amount::AmountOfJ => 1,
-        Amount::AmountOfO => 1,
+        None => 0,
+        Some(_) => 1,
     }
 }
 
-fn cents_by(kind: Amount, rec: &[u8]) -> Cents
-    requires { length rec.now ≡ record_bytes }
+fn cents_by(kind: Option<Amount>, rec: &[u8; RECORD_BYTES]) -> Cents
     ensures { result.0 ≡ cents_in (amount_field kind) rec.now }
 {
     match kind {
-        Amount::NoAmount => Cents(0),
-        Amount::AmountOfA => amount(rec, places::CREDIT_AMOUNT),
-        Amount::AmountOfJ => amount(rec, places::BOLETO_AMOUNT),
-        Amount::AmountOfO => amount(rec, places::COLLECTION_AMOUNT),
+        None => Cents(0),
+        Some(Amount::OfA) => amount(rec, places::CREDIT_AMOUNT),
+        Some(Amount::OfJ) => amount(rec, places::BOLETO_AMOUNT),
+        Some(Amount::OfO) => amount(rec, places::COLLECTION_AMOUNT),
     }
 }
 
 // The payment that a line begins, with its amount, whatever its movement.
-fn tally_by(amount: Amount, rec: &[u8]) -> Tally
-    requires { length rec.now ≡ record_bytes }
+fn tally_by(amount: Option<Amount>, rec: &[u8; RECORD_BYTES]) -> Tally
     ensures { result ≡ tallied true (amount_field amount) rec.now }
 {
     Tally {
@@ -223,24 +215,20 @@ fn tally_by(amount: Amount, rec: &[u8]) -> Tally
 }
 
 // Movement 9 withdraws a payment.
-fn withdraws(rec: &[u8]) -> bool
-    requires { length rec.now ≡ record_bytes }
+fn withdraws(rec: &[u8; RECORD_BYTES]) -> bool
     ensures { result ≡ withdraws rec.now }
 {
     rec[places::MOVEMENT - 1] == WITHDRAWAL
 }
 
 // What a line counts, by its row.
-pub(crate) fn counted(shape: Shape, rec: &[u8]) -> Totals
-    requires { length rec.now ≡ record_bytes }
+pub(crate) fn counted(shape: Shape, rec: &[u8; RECORD_BYTES]) -> Totals
     ensures { result ≡ counts_by shape rec.now }
 {
-    let line = shape.line;
-    let amount = shape.amount;
-    let tally = tally_by(amount, rec);
+    let tally = tally_by(shape.amount, rec);
     let withdrawn = withdraws(rec);
     Totals {
-        batches: batches_by(line),
+        batches: batches_by(shape.line),
         records: RecordCount(1),
         live: Live(tally.only(!withdrawn)),
         withdrawn: Withdrawn(tally.only(withdrawn)),

@@ -3,13 +3,13 @@
 // the library; here the input is read, part by part as it comes, and the answer printed.
 #![tactic(auto)]
 
-mod input;
-
 use files::Incoming;
-use input::{BUFFER_BYTES, Input};
 use reply::Line;
 use std::io;
 use std::io::Read;
+
+// 270 lines: where each read fills it, as of a file on disk, no line lies in two parts.
+const BUFFER_BYTES: usize = 65340;
 
 // A read error never looks like an answer.
 fn unread(rt: &impl Eprint) -> io::Result<()> {
@@ -21,17 +21,16 @@ fn unread(rt: &impl Eprint) -> io::Result<()> {
 fn check(rt: &(impl Print + Eprint), source: &mut impl Read, buf: &mut [u8]) -> io::Result<()> {
     let mut state = Incoming::start();
     for _ in 0..u64::MAX {
-        match input::read(source, buf) {
-            Input::Part(bytes) => {
+        match source.read(buf) {
+            Ok(0) => return rt.println(Line::from(state.end().outcome)),
+            Ok(bytes) => {
                 let taken = state.part(&buf[..bytes]);
-                let answer = taken.answer;
-                if !answer.is_accepted() {
-                    return Line::of_answer(answer).print(rt);
+                if taken.answer.is_err() {
+                    return rt.println(Line::from(taken.answer));
                 }
                 state = taken.state;
             }
-            Input::Ended => return Line::of_outcome(state.end().outcome).print(rt),
-            Input::Failed => return unread(rt),
+            Err(_) => return unread(rt),
         }
     }
     Ok(())

@@ -1,5 +1,4 @@
 -- Laws on plain values, for the proofs of this crate's functions.
 mod Small
-mod Over
 mod Printed
 pub mod laws

@@ -1,8 +1,6 @@
 -- The number that a digit string spells, and the digits of a number at a width. Assumes nothing.
-use Rattle.std.specs.Prelude.{ℕ, zero, suc, ◌*◌, ◌/◌, ◌%◌, ◌^◌, cond, ◌&&◌, List, [], ◌∷◌, ◌++◌, length, replicate, nat_le, nat_lt}
+use Rattle.std.specs.Prelude.{ℕ, zero, suc, ◌*◌, ◌/◌, ◌%◌, ◌^◌, cond, ◌&&◌, List, [], ◌∷◌, ◌++◌, length, replicate, nat_le, nat_lt, None, Option, Some}
 use Rattle.digits.specs.Digits.{digit_of, digit_byte, all_digits, weighed}
-use Rattle.digits.specs.declared.spelling.Number.{Number}
-use Rattle.digits.specs.declared.spelling.Number.TheVariants.{Is, Not}
 
 -- a digit with k digits to its right counts 10 to the k times
 abbrev pub number : List ℕ → ℕ
@@ -13,8 +11,8 @@ abbrev pub most_digits : ℕ
 most_digits = 19
 
 -- the number that a string gives: digits give one, if they are not too many
-unfoldable pub number_of : List ℕ → Number
-number_of bs = cond (all_digits bs && nat_le (length bs) most_digits) (Is (number bs)) Not
+unfoldable pub number_of : List ℕ → Option ℕ
+number_of bs = cond (all_digits bs && nat_le (length bs) most_digits) (Some (number bs)) None
 
 -- the same, a byte that is no digit counting 0, and too many digits 0
 abbrev pub value : List ℕ → ℕ

@@ -26,9 +26,7 @@ fn base_of(m: Modulus) -> u64
 {
     match m {
         Modulus::Ten => 10,
-        Modulus::Eleven => 11,
-        Modulus::PlainEleven => 11,
-        Modulus::LongEleven => 11,
+        Modulus::Eleven | Modulus::PlainEleven | Modulus::LongEleven => 11,
     }
 }
 
@@ -37,14 +35,13 @@ fn value_of(m: Modulus, b: u8) -> u64
     ensures { (result ≡ value_of m b) × (result ≤ most_value) }
 {
     match m {
-        Modulus::Ten => digit_of(b),
-        Modulus::Eleven => digit_of(b),
+        Modulus::Ten | Modulus::Eleven | Modulus::LongEleven => digit_of(b),
         Modulus::PlainEleven => character_of(b),
-        Modulus::LongEleven => digit_of(b),
     }
 }
 
 // What a value d with k bytes to its right counts.
+#[tactic(auto, unfolding(crate::specs::Checks::counts))]
 fn count(m: Modulus, k: usize, d: u64) -> u64
     requires { d ≤ most_value }
     ensures { result ≡ counts m k d }
@@ -54,8 +51,7 @@ fn count(m: Modulus, k: usize, d: u64) -> u64
             let p = (2 - (k % 2) as u64) * d;
             p / 10 + p % 10
         }
-        Modulus::Eleven => (2 + (k % 8) as u64) * d,
-        Modulus::PlainEleven => (2 + (k % 8) as u64) * d,
+        Modulus::Eleven | Modulus::PlainEleven => (2 + (k % 8) as u64) * d,
         Modulus::LongEleven => (2 + (k % 10) as u64) * d,
     }
 }
@@ -68,11 +64,9 @@ fn weigh_few(m: Modulus, s: &[u8], right: usize) -> u64
 {
     let mut sum = 0u16;
     let mut k = s.len() + right;
-    let mut i = 0;
-    while i < s.len() {
+    for b in s {
         k -= 1;
-        sum += count(m, k, value_of(m, s[i])) as u16;
-        i += 1;
+        sum += count(m, k, value_of(m, *b)) as u16;
     }
     sum as u64
 }
@@ -83,12 +77,10 @@ fn weigh_many(m: Modulus, s: &[u8], right: usize) -> u64
     ensures { result ≡ weighed (value_of m) (behind right (counts m)) s.now % base m }
 {
     let mut sum = 0;
-    let mut k = right;
-    let mut i = s.len();
-    while 0 < i {
-        i -= 1;
-        sum = (sum + count(m, k, value_of(m, s[i]))) % base_of(m);
-        k += 1;
+    let mut k = s.len() + right;
+    for b in s {
+        k -= 1;
+        sum = (sum + count(m, k, value_of(m, *b))) % base_of(m);
     }
     sum
 }
@@ -113,6 +105,7 @@ fn eleven_less(r: u64) -> u8
 }
 
 // The check digit for a remainder, as a byte.
+#[tactic(auto, using(crate::proofs::Small::lift_eleven), unfolding(crate::specs::Checks::lift))]
 fn lifted(m: Modulus, r: u64) -> u8
     requires { r < base m }
     ensures { result ≡ digit_byte (lift m r) }
@@ -120,8 +113,7 @@ fn lifted(m: Modulus, r: u64) -> u8
     match m {
         Modulus::Ten => b'0' + ((10 - r) % 10) as u8,
         Modulus::Eleven => { if r < 2 { b'1' } else { b'0' + (11 - r) as u8 } }
-        Modulus::PlainEleven => eleven_less(r),
-        Modulus::LongEleven => eleven_less(r),
+        Modulus::PlainEleven | Modulus::LongEleven => eleven_less(r),
     }
 }
 
@@ -145,14 +137,11 @@ fn check_of(m: Modulus, a: &[u8], b: &[u8]) -> u8
 pub fn is_sealed(m: Modulus, s: &[u8], at: usize) -> bool
     ensures { result ≡ sealed m (at + 1) s.now }
 {
-    if s.len() <= at {
-        return false;
-    }
-    let check = check_of(m, &s[0..at], &s[at + 1..]);
-    s[at] == check
+    at < s.len() && check_of(m, &s[..at], &s[at + 1..]) == s[at]
 }
 
-// Whether the last byte is the check digit of those before it.
+// Whether the last byte is the check digit of those before it. By indices: behind `split_last` the
+// compiler no longer sees that the strings are short.
 fn ends_right(m: Modulus, s: &[u8]) -> bool
     ensures { result ≡ ends_right m s.now }
 {

@@ -1,16 +1,15 @@
 -- The fields put one after the other over the output, and what stands there in the end. Assumes nothing.
+use Rattle.std.specs.Prelude.{Option}
 use mathlib.Core.Path.{◌≡◌, sym, ap, ◌∙◌}
-use mathlib.Core.Bool.{Bool, false}
 use mathlib.Core.List.{List, [], ◌∷◌, ◌++◌, append_assoc}
 use Prim.Native.Nat.{ℕ, suc, ◌+◌, ◌-◌, ◌≤◌, ◌<◌}
 use native.Mathlib.Nat.{le_antisymm}
 use native.Mathlib.Numerals.{add-one}
 use native.Mathlib.Omega.{arith}
 use lib.Dec.{T, eqb→eq}
-use lib.ListN.{length, get_or, take, drop, length-append, length-drop, take-append-drop}
+use lib.ListN.{length, take, drop, length-append, length-drop, take-append-drop}
 use lib.Seq.{take_at, drop_at, drop-drop, length-take-le, slice, slice-cons, slice_empty}
 use Rattle.digits.specs.Digits.{places}
-use Rattle.digits.specs.declared.spelling.Number.{Number}
 use Rattle.answer.specs.Output.{over}
 use Rattle.layout.specs.inner.Lent.{kind_of, field_count}
 use Rattle.layout.specs.Field.{Field, field, part, none}
@@ -22,7 +21,7 @@ use Rattle.layout.specs.inner.Entries.{width}
 use Rattle.layout.proofs.laws.Columns.{all_length}
 use Rattle.layout.specs.inner.Entries.{Stands}
 use Rattle.layout.specs.declared.Record.{Record}
-use Rattle.fields.specs.Values.{held_as, number_if, nth, rendered, joined, over_field}
+use Rattle.fields.specs.Values.{held_as, nth, rendered, joined, over_field}
 use Rattle.fields.specs.declared.Fields.{Fields}
 use Rattle.fields.proofs.laws.Parts.{first}
 
@@ -31,16 +30,12 @@ abbrev pub put : Field → List ℕ → List ℕ → List ℕ
 put f bs out = take (f.from - 1) out ++ (bs ++ drop (width f) (drop (f.from - 1) out))
 
 -- the fields put one after the other
-unfoldable pub put_fields : List Field → ℕ → (ℕ → Number) → List ℕ → List ℕ → List ℕ
+unfoldable pub put_fields : List Field → ℕ → (ℕ → Option ℕ) → List ℕ → List ℕ → List ℕ
 put_fields [] i of text out = out
 put_fields (f ∷ fs) i of text out = put_fields fs (suc i) of text (put f (rendered (held_as f) (of i) (part f text)) out)
 
--- what the two columns of numbers give at each index
-abbrev pub numbered : List ℕ → List Bool → ℕ → Number
-numbered numbers given j = number_if (get_or given j false) (get_or numbers j 0)
-
 -- one field more
-pub put_more : (f past start : ℕ) {from to k : ℕ} (of : ℕ → Number) (text out new : List ℕ) → start ≤ f → f < past → past ≤ field_count → Stands f from to k
+pub put_more : (f past start : ℕ) {from to k : ℕ} (of : ℕ → Option ℕ) (text out new : List ℕ) → start ≤ f → f < past → past ≤ field_count → Stands f from to k
     → new ≡ rendered (means (kind_of k)).held (of (f - start)) (places from to text)
     → put_fields (slice (f + 1) past all) (f + 1 - start) of text (put (field from to (kind_of k)) new out) ≡ put_fields (slice f past all) (f - start) of text out
 unfolding put_fields
@@ -49,7 +44,7 @@ put_more f past start of text out new b h l s q =
     let u : past ≤ length all = rw all_length l in
     rw (m, add-one f, slice-cons f past all none h u, ← s.is, q)
 
-pub put_end : (f past i : ℕ) (of : ℕ → Number) (text out : List ℕ) → f ≤ past → past ≤ f → put_fields (slice f past all) i of text out ≡ out
+pub put_end : (f past i : ℕ) (of : ℕ → Option ℕ) (text out : List ℕ) → f ≤ past → past ≤ f → put_fields (slice f past all) i of text out ≡ out
 unfolding put_fields
 put_end f past i of text out h l = rw (le_antisymm h l, slice_empty)
 

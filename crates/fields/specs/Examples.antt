@@ -1,14 +1,12 @@
 -- Numbers that are not given, where they may be and where they may not, computed: one statement over one table, in both directions. Assumes nothing.
-use Rattle.std.specs.Prelude.{Bool, true, false, ◌&&◌, List, [], ◌∷◌, ◌++◌, ℕ, ◌-◌, T, eqb, take, drop}
+use Rattle.std.specs.Prelude.{Bool, true, false, ◌&&◌, List, [], ◌∷◌, ◌++◌, ℕ, ◌-◌, T, eqb, take, drop, None, Option, Some}
 use Prim.Native.String.{String}
 use Rattle.answer.specs.Rules.{accepts, first_broken}
 use Rattle.answer.specs.Output.{over}
 use Rattle.answer.specs.Sums.{largest}
-use Rattle.answer.specs.declared.Answer.{Answer}
+use Rattle.answer.specs.Rules.{Answer}
 use Rattle.digits.specs.Digits.{bytes, places, leading, weighed}
 use Rattle.digits.specs.Numbers.{number_of, numeral, last_digits}
-use Rattle.digits.specs.declared.spelling.Number.{Number}
-use Rattle.digits.specs.declared.spelling.Number.TheVariants.{Is, Not}
 use Rattle.calendar.specs.Calendar.{exists, date_fits, time_fits}
 use Rattle.ids.specs.Ids.{characters_fit}
 use Rattle.layout.specs.Kinds.{same}
@@ -50,16 +48,16 @@ boleto = wording 18 "08591162900000487500104080001111100000000401" (number 92 13
 -- A's two numbers as they are given, and the 23 bytes that the record then has for them; a number of A that is too wide; a field, by its first place,
 -- that is not given, where it is refused; bytes of one of A's two that are
 pub data Example : Type 0 where
-  paid : Number → Number → String → Example
+  paid : Option ℕ → Option ℕ → String → Example
   wide : Field → ℕ → Example
   absent : Fields → ℕ → ℕ → ℕ → Example
   mixed : Field → String → Example
 
-abbrev pub same_number : Number → Number → Bool
-same_number (Is n) (Is k) = eqb n k
-same_number (Is n) Not = false
-same_number Not (Is k) = false
-same_number Not Not = true
+abbrev pub same_number : Option ℕ → Option ℕ → Bool
+same_number (Some n) (Some k) = eqb n k
+same_number (Some n) None = false
+same_number None (Some k) = false
+same_number None None = true
 
 abbrev pub answer : Direction → Record → List ℕ → Answer
 answer d r rec = first_broken (record_rules r d rec)
@@ -67,10 +65,10 @@ answer d r rec = first_broken (record_rules r d rec)
 abbrev pub made : Direction → Fields → Answer
 made d v = answer d v.which (record_of v.which v)
 
-abbrev pub give : Field → Number → Fields → Fields
+abbrev pub give : Field → Option ℕ → Fields → Fields
 give f m v = give_nth (index_of v.which f) m v
 
-abbrev pub reads_as : List ℕ → Field → Number → Bool
+abbrev pub reads_as : List ℕ → Field → Option ℕ → Bool
 reads_as rec f m = same_number (nth (index_of SegmentA f) (fields_in SegmentA rec)) m
 
 unfoldable pub holds : Direction → Example → Bool
@@ -78,7 +76,7 @@ holds d (paid m k text) =
     let rec = record_of SegmentA (give paid_date m (give paid_amount k credit)) in
     accepts (answer d SegmentA rec)
     && (same (places paid_date.from paid_amount.to rec) (bytes text) && (reads_as rec paid_date m && reads_as rec paid_amount k))
-holds d (wide f n) = refused_with 8 f.from (made d (give f (Is n) credit))
+holds d (wide f n) = refused_with 8 f.from (made d (give f (Some n) credit))
 holds d (absent v place number at) =
     accepts (made d v) && refused_with number at (made d (not_given (record { 0 = v.which; 1 = before place (fields_of v.which) }) v))
 holds d (mixed f text) =
@@ -87,12 +85,12 @@ holds d (mixed f text) =
 
 unfoldable pub table : List Example
 table =
-    paid (Is 17112026) (Is 10000) "17112026000000000010000"
-    ∷ paid (Is 17112026) Not "17112026               "
-    ∷ paid Not (Is 10000) "        000000000010000"
-    ∷ paid Not Not "                       "
-    ∷ paid (Is 0) Not "00000000               "
-    ∷ paid Not (Is 0) "        000000000000000"
+    paid (Some 17112026) (Some 10000) "17112026000000000010000"
+    ∷ paid (Some 17112026) None "17112026               "
+    ∷ paid None (Some 10000) "        000000000010000"
+    ∷ paid None None "                       "
+    ∷ paid (Some 0) None "00000000               "
+    ∷ paid None (Some 0) "        000000000000000"
     ∷ wide paid_date 100000000
     ∷ wide paid_date largest
     ∷ wide paid_amount 1000000000000000

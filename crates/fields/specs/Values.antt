@@ -1,11 +1,9 @@
 -- A record's fields as one value: the record that they make, and the fields that a record gives. Assumes nothing.
-use Rattle.std.specs.Prelude.{◌≡◌, Bool, true, false, cond, ◌&&◌, List, [], ◌∷◌, ◌++◌, map, ℕ, ◌-◌, suc, ltb, eqb, length, get_or, take, drop, set, replicate}
+use Rattle.std.specs.Prelude.{◌≡◌, Bool, true, false, cond, ◌&&◌, List, [], ◌∷◌, ◌++◌, map, ℕ, ◌-◌, suc, ltb, eqb, length, get_or, take, drop, set, replicate, Err, None, Ok, Option, Result, Some}
+use Rattle.answer.specs.declared.Refusal.{Refusal}
 use Rattle.answer.specs.Rules.{first_broken, and_then, refused_as}
-use Rattle.answer.specs.declared.Answer.{Answer}
-use Rattle.answer.specs.declared.Answer.TheVariants.{Accepted, Refused}
+use Rattle.answer.specs.Rules.{Answer}
 use Rattle.digits.specs.Numbers.{number_of, numeral}
-use Rattle.digits.specs.declared.spelling.Number.{Number}
-use Rattle.digits.specs.declared.spelling.Number.TheVariants.{Is, Not}
 use Rattle.answer.specs.Output.{room, written, over}
 use Rattle.answer.specs.Sums.{largest}
 use Rattle.layout.specs.Field.{Field, part, none}
@@ -18,7 +16,6 @@ use Rattle.layout.specs.declared.Record.{Record}
 use Rattle.layout.specs.declared.Record.TheVariants.{SegmentZ}
 use Rattle.layout.specs.declared.names.Name.{Name}
 use Rattle.fields.specs.declared.Fields.{Fields}
-use Rattle.fields.specs.declared.RecordRead.{RecordRead}
 use Rattle.fields.specs.declared.writing.Made.{Made}
 
 abbrev pub held_as : Field → Held
@@ -26,30 +23,27 @@ held_as f = (means f.kind).held
 
 -- ---- a number, or not given
 
-abbrev pub number_if : Bool → ℕ → Number
-number_if given n = cond given (Is n) Not
-
 -- what is given for the field at an index
-abbrev pub nth : ℕ → Fields → Number
-nth j v = number_if (get_or v.given j false) (get_or v.numbers j 0)
+abbrev pub nth : ℕ → Fields → Option ℕ
+nth j v = get_or v.numbers j None
 
-abbrev pub is_given : Number → Bool
-is_given (Is n) = true
-is_given Not = false
+abbrev pub is_given : Option ℕ → Bool
+is_given (Some n) = true
+is_given None = false
 
-abbrev pub or_zero : Number → ℕ
-or_zero (Is n) = n
-or_zero Not = 0
+abbrev pub or_zero : Option ℕ → ℕ
+or_zero (Some n) = n
+or_zero None = 0
 
 -- ---- writing
 
 -- a number's bytes at a width: its digits, and blanks where it is not given
-abbrev pub number_bytes : ℕ → Number → List ℕ
-number_bytes w (Is n) = numeral w n
-number_bytes w Not = run blank w
+abbrev pub number_bytes : ℕ → Option ℕ → List ℕ
+number_bytes w (Some n) = numeral w n
+number_bytes w None = run blank w
 
 -- a field's bytes, from the number and the bytes that the caller gives for it; fixed content needs neither
-abbrev pub rendered : Held → Number → List ℕ → List ℕ
+abbrev pub rendered : Held → Option ℕ → List ℕ → List ℕ
 rendered (a_number p) m bs = number_bytes (length bs) m
 rendered as_bytes m bs = bs
 rendered (as_fixed content) m bs = content (length bs)
@@ -64,8 +58,8 @@ record_of r v = joined (fields_of r) 0 v
 
 -- a record's bytes if no rule is broken, else none
 abbrev pub bytes_if : Answer → List ℕ → List ℕ
-bytes_if Accepted rec = rec
-bytes_if (Refused r) rec = replicate record_bytes 0
+bytes_if (Ok tt) rec = rec
+bytes_if (Err r) rec = replicate record_bytes 0
 
 -- a record that fields make, taken as those of r: the check's answer, and if no rule is broken its bytes
 unfoldable pub made_of : Record → Direction → Fields → Made
@@ -84,12 +78,12 @@ pub record Puts (m : Made) (out : List ℕ) (answer : Answer) (after : List ℕ)
 -- ---- reading
 
 -- the number that digits give; blanks give none. A field that is not held as a number has 0
-abbrev pub number_in : Held → List ℕ → Number
+abbrev pub number_in : Held → List ℕ → Option ℕ
 number_in (a_number p) bs = number_of bs
-number_in as_bytes bs = Is 0
-number_in (as_fixed content) bs = Is 0
+number_in as_bytes bs = Some 0
+number_in (as_fixed content) bs = Some 0
 
-abbrev pub read_at : List ℕ → Field → Number
+abbrev pub read_at : List ℕ → Field → Option ℕ
 read_at rec f = number_in (held_as f) (part f rec)
 
 -- as many numbers as a value has room for
@@ -100,14 +94,13 @@ most_fields = 32
 abbrev pub for_each : {A : Type 0} → Record → (Field → A) → A → List A
 for_each r value rest = map value (fields_of r) ++ replicate (most_fields - length (fields_of r)) rest
 
--- all fields of a record: each number, whether it is given, and the record's bytes as they stand
+-- all fields of a record: each number, or that it is not given, and the record's bytes as they stand
 unfoldable pub fields_in : Record → List ℕ → Fields
-fields_in r rec =
-    record { which = r; numbers = for_each r (λ f. or_zero (read_at rec f)) 0; given = for_each r (λ f. is_given (read_at rec f)) true; text = rec }
+fields_in r rec = record { which = r; numbers = for_each r (read_at rec) (Some 0); text = rec }
 
 -- fields of a record with this number everywhere, given, and this byte
 abbrev pub all_as : ℕ → ℕ → Record → Fields
-all_as n b r = record { which = r; numbers = replicate most_fields n; given = replicate most_fields true; text = replicate record_bytes b }
+all_as n b r = record { which = r; numbers = replicate most_fields (Some n); text = replicate record_bytes b }
 
 abbrev pub no_fields : Record → Fields
 no_fields r = all_as 0 0 r
@@ -120,14 +113,13 @@ blank_fields r = all_as 0 blank r
 abbrev pub not_made : Made
 not_made = record { answer = refused_as 4 (suc segment_place); fields = no_fields SegmentZ; bytes = replicate record_bytes 0 }
 
-abbrev pub fields_if : Answer → Fields → Record → Fields
-fields_if Accepted v r = v
-fields_if (Refused x) v r = no_fields r
+abbrev pub fields_if : Answer → Fields → Result Fields Refusal
+fields_if (Ok tt) v = Ok v
+fields_if (Err x) v = Err x
 
--- the check's answer, and the fields if no rule is broken
-unfoldable pub read_record : Record → Direction → List ℕ → RecordRead
-read_record r d rec =
-    record { answer = first_broken (record_rules r d rec); fields = fields_if (first_broken (record_rules r d rec)) (fields_in r rec) r }
+-- the fields if no rule is broken, else the check's refusal
+unfoldable pub read_record : Record → Direction → List ℕ → Result Fields Refusal
+read_record r d rec = fields_if (first_broken (record_rules r d rec)) (fields_in r rec)
 
 -- ---- whose fields they are
 
@@ -143,7 +135,7 @@ unless_spoiled right r v = cond right v (spoiled r)
 
 -- fields as those of a record
 abbrev pub of_record : Record → Fields → Fields
-of_record r v = record { which = r; numbers = v.numbers; given = v.given; text = v.text }
+of_record r v = record { which = r; numbers = v.numbers; text = v.text }
 
 -- fields where those of a record are asked: they have to be of that record
 abbrev pub taken_as : Record → Fields → Fields
@@ -163,26 +155,26 @@ is_number_at r j = ltb j (length (fields_of r)) && is_number (held_as (get_or (f
 abbrev pub may_be_absent_at : Record → ℕ → Bool
 may_be_absent_at r j = ltb j (length (fields_of r)) && may_be_absent (held_as (get_or (fields_of r) j none))
 
--- one of a value's columns with another entry; past the last nothing changes
+-- a value's numbers with another entry; past the last nothing changes
 abbrev pub set_at : {A : Type 0} → ℕ → A → List A → List A
 set_at j x xs = cond (ltb j most_fields) (set xs j x) xs
 
 -- at an index: a number, or that it is not given
-abbrev pub give_nth : ℕ → Number → Fields → Fields
-give_nth j m v = record { which = v.which; numbers = set_at j (or_zero m) v.numbers; given = set_at j (is_given m) v.given; text = v.text }
+abbrev pub give_nth : ℕ → Option ℕ → Fields → Fields
+give_nth j m v = record { which = v.which; numbers = set_at j m v.numbers; text = v.text }
 
 abbrev pub set_nth : ℕ → ℕ → Fields → Fields
-set_nth j n v = give_nth j (Is n) v
+set_nth j n v = give_nth j (Some n) v
 
 -- by its name: none where it is not given, none of another record, and none past the last field
-abbrev pub number_at : Name → Fields → Number
-number_at name v = cond (is_of name.0 v && ltb name.1 (length (fields_of v.which))) (nth name.1 v) Not
+abbrev pub number_at : Name → Fields → Option ℕ
+number_at name v = cond (is_of name.0 v && ltb name.1 (length (fields_of v.which))) (nth name.1 v) None
 
-abbrev pub give_number : Name → Number → Fields → Fields
+abbrev pub give_number : Name → Option ℕ → Fields → Fields
 give_number name m v = unless_spoiled (is_of name.0 v) v.which (give_nth name.1 m v)
 
 abbrev pub with_number : Name → ℕ → Fields → Fields
-with_number name n v = give_number name (Is n) v
+with_number name n v = give_number name (Some n) v
 
 -- ---- one field's text
 
@@ -197,17 +189,16 @@ text_with r j bs text = cond (ltb j (length (fields_of r))) (over_field (get_or 
 abbrev pub with_text : Name → List ℕ → Fields → Fields
 with_text name bs v =
     unless_spoiled (is_of name.0 v) v.which
-    (record { which = v.which; numbers = v.numbers; given = v.given; text = text_with v.which name.1 bs v.text })
+    (record { which = v.which; numbers = v.numbers; text = text_with v.which name.1 bs v.text })
 
 -- ---- a field that is not given: no number, and blanks for its text
 
 abbrev pub not_given : Name → Fields → Fields
-not_given name v = with_text name (run blank record_bytes) (give_number name Not v)
+not_given name v = with_text name (run blank record_bytes) (give_number name None v)
 
 -- ---- whole ones
 
 -- the arrays of fields have their lengths, as those of every value that a call is given
 pub record Whole (v : Fields) : Type 0 where
   pub numbers : length v.numbers ≡ most_fields
-  pub given : length v.given ≡ most_fields
   pub text : length v.text ≡ record_bytes

@@ -2,7 +2,6 @@
 // with the fields of another spoils them: no call takes them as they stand.
 #![tactic(auto)]
 
-mod presence;
 mod reading;
 mod table;
 mod text;
@@ -11,11 +10,9 @@ mod writing;
 ghost use Rattle.std.specs.Prelude.{◌≡◌};
 ghost use Rattle.fields.specs.Values.{no_fields, blank_fields, is_of, spoiled, taken_as, give_nth, give_number, number_at, with_number, with_text, not_given};
 
-use answer::{Answer, Cents, RecordCount};
-use digits::Number;
+use answer::{Cents, RecordCount};
 use layout::names::Name;
-use layout::{RECORD_BYTES, Record};
-use presence::{is_given, number_if, or_zero};
+use layout::{BLANK, RECORD_BYTES, Record};
 pub use reading::read_record;
 pub use table::{count, is_number, may_be_absent};
 use text::text_with;
@@ -25,22 +22,13 @@ pub use writing::{Made, check_bytes, make_record, write_record};
 const MOST_FIELDS: usize = 32;
 
 // The fields of a record. The i-th number is that of the record's i-th field, where it is held as a
-// number and is given; where it is not given, what stands there says nothing: `number_at` tells the
-// two apart. layout::names has the fields' names. The text has the other fields' bytes at their
-// places.
+// number, and none where it is not given; layout::names has the fields' names. The text has the other
+// fields' bytes at their places.
 #[derive(Clone, Copy)]
 pub struct Fields {
     pub which: Record,
-    pub numbers: [u64; 32],
-    pub given: [bool; 32],
-    pub text: [u8; 240],
-}
-
-// The check's answer, and the fields if the record is right.
-#[derive(Clone, Copy)]
-pub struct RecordRead {
-    pub answer: Answer,
-    pub fields: Fields,
+    pub numbers: [Option<u64>; MOST_FIELDS],
+    pub text: [u8; RECORD_BYTES],
 }
 
 impl Fields {
@@ -50,9 +38,8 @@ impl Fields {
     {
         Fields {
             which,
-            numbers: [0; 32],
-            given: [true; 32],
-            text: [0; 240],
+            numbers: [Some(0); MOST_FIELDS],
+            text: [0; RECORD_BYTES],
         }
     }
 
@@ -61,10 +48,8 @@ impl Fields {
         ensures { result ≡ blank_fields which }
     {
         Fields {
-            which,
-            numbers: [0; 32],
-            given: [true; 32],
-            text: [b' '; 240],
+            text: [BLANK; RECORD_BYTES],
+            ..Fields::none(which)
         }
     }
 
@@ -73,19 +58,16 @@ impl Fields {
         ensures { result ≡ spoiled which }
     {
         Fields {
-            which,
-            numbers: [u64::MAX; 32],
-            given: [true; 32],
-            text: [0; 240],
+            numbers: [Some(u64::MAX); MOST_FIELDS],
+            ..Fields::none(which)
         }
     }
 
     // Whether they are the fields of this record.
-    fn is_of(self, which: Record) -> bool
-        ensures { result ≡ is_of which self }
+    fn is_of(&self, which: Record) -> bool
+        ensures { result ≡ is_of which self.now }
     {
-        let own = self.which;
-        layout::is_same(own, which)
+        layout::is_same(self.which, which)
     }
 
     // These fields, if they are of this record; if not, fields of it that every call refuses.
@@ -93,67 +75,54 @@ impl Fields {
         ensures { result ≡ taken_as which self }
     {
         if self.is_of(which) {
-            let numbers = self.numbers;
-            let given = self.given;
-            let text = self.text;
-            return Fields {
-                which,
-                numbers,
-                given,
-                text,
-            };
+            self
+        } else {
+            Fields::spoiled(which)
         }
-        Fields::spoiled(which)
     }
 
     // A field's number; there is none where it is not given, none of another record, and none past the
     // last field.
-    pub fn number_at(self, name: Name) -> Number
+    pub fn number_at(self, name: Name) -> Option<u64>
         ensures { result ≡ number_at name self }
     {
-        let of = name.0;
-        if !self.is_of(of) {
-            return Number::Not;
+        let Name(which, field) = name;
+        if self.is_of(which) && field < count(self.which) {
+            self.numbers[field]
+        } else {
+            None
         }
-        let own = self.which;
-        let field = name.1;
-        if count(own) <= field {
-            return Number::Not;
-        }
-        number_if(self.given[field], self.numbers[field])
     }
 
     // The same fields with another number at an index, or with none given there.
-    fn give_nth(mut self, field: usize, m: Number) -> Fields
+    fn give_nth(mut self, field: usize, m: Option<u64>) -> Fields
         ensures { result ≡ give_nth field m self }
     {
         if field < MOST_FIELDS {
-            self.numbers[field] = or_zero(m);
-            self.given[field] = is_given(m);
+            self.numbers[field] = m;
         }
         self
     }
 
     // The same by a name; by one of another record, fields that every call refuses.
-    fn give_number(self, name: Name, m: Number) -> Fields
+    fn give_number(self, name: Name, m: Option<u64>) -> Fields
         ensures { result ≡ give_number name m self }
     {
-        let of = name.0;
-        if self.is_of(of) {
-            return self.give_nth(name.1, m);
+        if self.is_of(name.0) {
+            self.give_nth(name.1, m)
+        } else {
+            Fields::spoiled(self.which)
         }
-        let own = self.which;
-        Fields::spoiled(own)
     }
 
     // The same fields with another number; by a name of another record, fields that every call refuses.
     pub fn with_number(self, name: Name, n: u64) -> Fields
         ensures { result ≡ with_number name n self }
     {
-        self.give_number(name, Number::Is(n))
+        self.give_number(name, Some(n))
     }
 
-    // The same of cents, and of a count of records.
+    // The same of cents.
     pub fn with_cents(self, name: Name, cents: Cents) -> Fields
         ensures { result ≡ with_number name cents.0 self }
     {
@@ -172,21 +141,12 @@ impl Fields {
     pub fn with_text(self, name: Name, bytes: &[u8]) -> Fields
         ensures { result ≡ with_text name bytes.now self }
     {
-        let of = name.0;
-        let own = self.which;
-        if self.is_of(of) {
-            let numbers = self.numbers;
-            let given = self.given;
-            let held = self.text;
-            let text = text_with(held, own, name.1, bytes);
-            return Fields {
-                which: own,
-                numbers,
-                given,
-                text,
-            };
+        if self.is_of(name.0) {
+            let text = text_with(self.text, self.which, name.1, bytes);
+            Fields { text, ..self }
+        } else {
+            Fields::spoiled(self.which)
         }
-        Fields::spoiled(own)
     }
 
     // The same fields with one that is not given: it is written as blanks, which is the fault that blanks
@@ -195,7 +155,7 @@ impl Fields {
     pub fn not_given(self, name: Name) -> Fields
         ensures { result ≡ not_given name self }
     {
-        let blanks = [layout::BLANK; RECORD_BYTES];
-        self.give_number(name, Number::Not).with_text(name, &blanks)
+        self.give_number(name, None)
+            .with_text(name, &[BLANK; RECORD_BYTES])
     }
 }

@@ -16,9 +16,7 @@ pub(crate) fn text_with(
 {
     if field < count(which) {
         let e = entry_of(which, field);
-        let start = e.from - 1;
-        let end = e.to;
-        layout::copy(bytes, &mut text[start..end]);
+        layout::copy(bytes, &mut text[e.from - 1..e.to]);
     }
     text
 }

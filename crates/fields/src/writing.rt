@@ -2,31 +2,29 @@
 ghost use Rattle.std.specs.Prelude.{◌≡◌, ◌∷◌, [], ◌++◌, ◌≤◌, T as Holds, length, drop};
 ghost use Rattle.answer.specs.Rules.{first_broken};
 ghost use Rattle.answer.specs.Output.{Writes};
-ghost use Rattle.layout.specs.inner.Lent.{kind_of, Columns, may_be};
+ghost use Rattle.layout.specs.inner.Lent.{kind_of, may_be};
 ghost use Rattle.layout.specs.Table.{record_bytes};
 ghost use Rattle.layout.specs.Kinds.{means};
 ghost use Rattle.layout.specs.Record.{record_rules, byte_rule};
 ghost use Rattle.fields.specs.Values.{number_bytes, rendered, record_of, made_of, not_made, Puts};
 
 use super::Fields;
-use super::presence::number_if;
 use super::table::field_at;
 use answer::{Answer, numbers};
-use digits::Number;
-use layout::{BLANK, Content, Direction, FIELDS, Fill, RECORD_BYTES, Record, places};
+use layout::{BLANK, Content, Direction, Fill, RECORD_BYTES, Record, places};
 
 // A number over its field's part of the output: its digits, or blanks where it is not given.
-fn write_given(m: Number, part: &mut [u8])
+fn write_given(m: Option<u64>, part: &mut [u8])
     ensures { part.new ≡ number_bytes (length part.old) m }
 {
     match m {
-        Number::Is(n) => digits::write_number(n, part),
-        Number::Not => Content::Run(BLANK).write(part),
+        Some(n) => digits::write_number(n, part),
+        None => Content::Run(BLANK).write(part),
     }
 }
 
 // One field, over its part of the output: the caller's number or text, or the fixed content.
-fn write_field(k: u8, m: Number, text: &[u8], part: &mut [u8])
+fn write_field(k: u8, m: Option<u64>, text: &[u8], part: &mut [u8])
     requires { (length text.now ≡ length part.old) × Holds (may_be (kind_of k) (length part.old)) }
     ensures { part.new ≡ rendered (means (kind_of k)).held m text.now }
 {
@@ -38,47 +36,26 @@ fn write_field(k: u8, m: Number, text: &[u8], part: &mut [u8])
 }
 
 // The record over the output's first bytes: each field's part is lent to the field writer.
-fn render(from: &[u8; FIELDS], to: &[u8; FIELDS], kind: &[u8; FIELDS], v: Fields, out: &mut [u8])
-    requires columns { Columns from.now to.now kind.now }
-    requires record_bytes_in_bounds { record_bytes ≤ length out.old }
-    ensures { out.new ≡ record_of v.which v ++ drop record_bytes out.old }
+fn render(v: &Fields, out: &mut [u8])
+    requires { record_bytes ≤ length out.old }
+    ensures { out.new ≡ record_of v.now.which v.now ++ drop record_bytes out.old }
 {
-    let which = v.which;
-    let numbers = v.numbers;
-    let given = v.given;
-    let text = v.text;
-    let s = layout::span_of(which);
-    let first = s.first;
-    let past = s.past;
-    let mut f = first;
-    while f < past {
-        let e = field_at(from, to, kind, f);
-        let k = e.kind;
+    let s = layout::span_of(v.which);
+    for f in s.first..s.past {
+        let e = field_at(f);
         let start = e.from - 1;
         let end = e.to;
-        let m = number_if(given[f - first], numbers[f - first]);
-        write_field(k, m, &text[start..end], &mut out[start..end]);
-        f += 1;
+        let m = v.numbers[f - s.first];
+        write_field(e.kind, m, &v.text[start..end], &mut out[start..end]);
     }
 }
 
-// The same, with the table bound here, once a record, and lent down.
-fn lay(v: Fields, out: &mut [u8])
-    requires { record_bytes ≤ length out.old }
-    ensures { out.new ≡ record_of v.which v ++ drop record_bytes out.old }
-{
-    let from = layout::FROM;
-    let to = layout::TO;
-    let kind = layout::KIND;
-    render(&from, &to, &kind, v, out);
-}
-
 // The bytes of the record, right or not.
-fn bytes_of(v: Fields) -> [u8; 240]
-    ensures { result ≡ record_of v.which v }
+fn bytes_of(v: &Fields) -> [u8; RECORD_BYTES]
+    ensures { result ≡ record_of v.now.which v.now }
 {
-    let mut bytes = [0u8; RECORD_BYTES];
-    lay(v, &mut bytes);
+    let mut bytes = [0; RECORD_BYTES];
+    render(v, &mut bytes);
     bytes
 }
 
@@ -88,30 +65,23 @@ fn bytes_of(v: Fields) -> [u8; 240]
 pub struct Made {
     answer: Answer,
     fields: Fields,
-    bytes: [u8; 240],
+    bytes: [u8; RECORD_BYTES],
 }
 
 // The record that fields make, checked.
 pub fn make_record(v: Fields, dir: Direction) -> Made
     ensures { result ≡ made_of v.which dir v }
 {
-    let which = v.which;
-    let bytes = bytes_of(v);
-    let answer = walk::check_record(&bytes, which, dir);
-    match answer {
-        Answer::Accepted => Made {
-            answer,
-            fields: v,
-            bytes,
-        },
-        Answer::Refused(_) => {
-            let none = [0u8; RECORD_BYTES];
-            Made {
-                answer,
-                fields: v,
-                bytes: none,
-            }
-        }
+    let all = bytes_of(&v);
+    let answer = walk::check_record(&all, v.which, dir);
+    let bytes = match answer {
+        Ok(()) => all,
+        Err(_) => [0; RECORD_BYTES],
+    };
+    Made {
+        answer,
+        fields: v,
+        bytes,
     }
 }
 
@@ -119,8 +89,7 @@ pub fn make_record(v: Fields, dir: Direction) -> Made
 pub fn check_bytes(v: Fields) -> Answer
     ensures { result ≡ first_broken (byte_rule (record_of v.which v) ∷ []) }
 {
-    let bytes = bytes_of(v);
-    walk::check_bytes(&bytes)
+    walk::check_bytes(&bytes_of(&v))
 }
 
 impl Made {
@@ -129,11 +98,10 @@ impl Made {
     pub fn none() -> Made
         ensures { result ≡ not_made }
     {
-        let fields = Fields::none(Record::SegmentZ);
         Made {
-            answer: Answer::refused(numbers::NOT_PRINTABLE, places::SEGMENT + 1),
-            fields,
-            bytes: [0u8; RECORD_BYTES],
+            answer: answer::refused(numbers::NOT_PRINTABLE, places::SEGMENT + 1),
+            fields: Fields::none(Record::SegmentZ),
+            bytes: [0; RECORD_BYTES],
         }
     }
 
@@ -145,7 +113,7 @@ impl Made {
     }
 
     // The record's bytes; zeros where it is refused.
-    pub fn bytes(self) -> [u8; 240]
+    pub fn bytes(self) -> [u8; RECORD_BYTES]
         ensures { result ≡ self.bytes }
     {
         self.bytes
@@ -155,16 +123,10 @@ impl Made {
     pub fn put(self, out: &mut [u8]) -> Answer
         ensures { Puts self out.old result out.new }
     {
-        let right = self.answer;
-        let answer = right.and_then(Answer::room(RECORD_BYTES, out));
-        match answer {
-            Answer::Accepted => {
-                let v = self.fields;
-                lay(v, out);
-                answer
-            }
-            Answer::Refused(_) => answer,
-        }
+        self.answer?;
+        answer::room(RECORD_BYTES, out)?;
+        render(&self.fields, out);
+        Ok(())
     }
 }
 

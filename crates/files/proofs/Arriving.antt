@@ -1,4 +1,5 @@
 -- What each step of a part's call adds to the state behind the bytes. Assumes nothing.
+use Rattle.std.specs.Prelude.{Err, Ok}
 use mathlib.Core.Path.{◌≡◌, refl, sym, ap, ◌∙◌}
 use mathlib.Core.Bool.{Bool, true, false, not, ◌||◌}
 use mathlib.Core.Logic.{◌⊎◌, inl, inr}
@@ -11,8 +12,7 @@ use lib.Dec.{eqb}
 use lib.ListN.{length, take, drop, length-append, length-drop, take-append-drop}
 use lib.Seq.{length-take-le, take_all}
 use Rattle.answer.proofs.laws.Order.{never}
-use Rattle.answer.specs.declared.Answer.{Answer}
-use Rattle.answer.specs.declared.Answer.TheVariants as answer
+use Rattle.answer.specs.Rules.{Answer}
 use Rattle.checker.specs.Order.{ended}
 use Rattle.checker.specs.Line.{line_bytes}
 use Rattle.checker.specs.Machine.{step_of}
@@ -46,8 +46,8 @@ module _ (m : Checker) (rest : List ℕ) (less : length rest < line_bytes) where
     where
       by : (l : List ℕ) (a : Answer) → (step_of m l).answer ≡ a → let x = unless a (steps (step_of m l).state []) (step_of m l) in
           state x.state [] (status_by x.answer) ≡ unless_refused a (step_of m l).state (state (step_of m l).state [] Open)
-      by l answer.Accepted e = refl
-      by l (answer.Refused r) e = rw e
+      by l (Ok tt) e = refl
+      by l (Err r) e = rw e
 
       go : (l : List ℕ) → length l < line_bytes → not (ended m.phase) ≡ false → let x = steps m (lines_of l) in
           state x.state [] (status_by x.answer) ≡ arrive m (lines_of l)

@@ -1,29 +1,20 @@
 -- The line that waits, and what comes to it. Assumes nothing.
-use mathlib.Core.Path.{◌≡◌, sym, ◌∙◌}
+use mathlib.Core.Path.{◌≡◌, ◌∙◌}
 use mathlib.Core.Logic.{inl, inr}
 use mathlib.Core.List.{List, [], ◌++◌, append_assoc}
-use Prim.Native.Nat.{ℕ, ◌+◌, ◌-◌, ◌≤◌, ◌<◌}
+use Prim.Native.Nat.{ℕ, ◌+◌, ◌-◌, ◌≤◌, min}
 use native.Mathlib.Nat.{zero-add}
 use native.Mathlib.Decide.{dec_le}
 use native.Mathlib.Omega.{arith}
-use lib.ListN.{length, take, drop, length-append, length-drop}
+use lib.ListN.{length, take, drop, length-append}
 use lib.Seq.{length-take-le, take_all, take-append-le, drop-drop}
-use Rattle.answer.specs.Output.{over}
-use Rattle.layout.proofs.laws.Bytes.{over_all, drop_replicate}
+use Rattle.layout.proofs.laws.Bytes.{drop_replicate}
 use Rattle.checker.specs.Line.{line_bytes}
 use Rattle.files.specs.Parts.{waiting, bytes_in}
 use Rattle.files.specs.inner.Joined.{joined, Share}
 use Rattle.files.specs.declared.unfinished.Unfinished.{Unfinished}
 
 -- ---- how many bytes are there
-
-module _ (u : Unfinished) (room : length u.bytes ≡ line_bytes) where
-  -- more bytes than a line's are a line
-  pub all_there : line_bytes < u.count → length (bytes_in u) ≡ line_bytes
-  all_there h = rw (take_all u.count u.bytes (omega arith)) room
-
-  pub some_there : u.count ≤ line_bytes → length (bytes_in u) ≡ u.count
-  some_there h = length-take-le u.count u.bytes (omega arith)
 
 -- they stand in front
 record There (u : Unfinished) : Type 0 where
@@ -49,12 +40,11 @@ in_room u = (there u).fits
 
 -- what a copy into the room behind them leaves
 pub copied : (u : Unfinished) (more out : List ℕ) (n : ℕ) → n ≡ length (bytes_in u) → n + length more ≤ length u.bytes → let k = n + length more - n in
-    out ≡ over more (take k (drop n u.bytes))
+    out ≡ more
     → ◌≡◌ {A = Unfinished} (record { bytes = take n u.bytes ++ (out ++ drop k (drop n u.bytes)); count = n + length more }) (joined u more)
 copied u more out n p h e =
     let k : n + length more - n ≡ length more = omega arith in
-    let long : length more ≡ length (take (length more) (drop n u.bytes)) = sym (length-take-le (length more) (drop n u.bytes) (rw length-drop (omega arith))) in
-    rw (e, k, over_all more (take (length more) (drop n u.bytes)) long, drop-drop, p)
+    rw (e, k, drop-drop, p)
 
 first_two : (x more rest : List ℕ) → take (length x + length more) (x ++ (more ++ rest)) ≡ x ++ more
 first_two x more rest =
@@ -77,8 +67,5 @@ module _ (there part : ℕ) where
   pub no_share : there ≡ 0 → Share there part 0
   no_share e = record { within = omega arith; fits = omega arith; finishes = λ h. inl (omega arith) }
 
-  pub share_lacked : there ≤ line_bytes → line_bytes - there < part → Share there part (line_bytes - there)
-  share_lacked h l = record { within = omega arith; fits = omega arith; finishes = λ k. inr (omega arith) }
-
-  pub share_all : there ≤ line_bytes → part ≤ line_bytes - there → Share there part part
-  share_all h l = record { within = omega arith; fits = omega arith; finishes = λ k. absurd (omega arith) }
+  pub rest_share : there ≤ line_bytes → Share there part (min part (line_bytes - there))
+  rest_share h = record { within = omega arith; fits = omega arith; finishes = λ k. inr (omega arith) }

@@ -1,6 +1,6 @@
 -- Calls with a file's parts, and for its end, one after the other in any order. Assumes nothing.
 use Rattle.std.specs.Prelude.{Bool, true, false, List, [], ◌∷◌, ◌++◌, ℕ}
-use Rattle.answer.specs.declared.Answer.{Answer}
+use Rattle.answer.specs.Rules.{Answer}
 use Rattle.files.specs.Parts.{part_call, end_call}
 use Rattle.files.specs.declared.incoming.Incoming.{Incoming}
 

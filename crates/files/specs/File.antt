@@ -1,16 +1,14 @@
 -- Many lines, the end, and a whole file. Assumes nothing.
-use Rattle.std.specs.Prelude.{◌≡◌, cond, List, [], ◌∷◌, ℕ, zero, suc, ◌≤◌, ◌<◌, length, take, drop}
+use Rattle.std.specs.Prelude.{◌≡◌, cond, List, [], ◌∷◌, ℕ, zero, suc, ◌≤◌, ◌<◌, length, take, drop, Result, Ok, Err}
 use Rattle.answer.specs.Rules.{no_line, refusal}
 use Rattle.answer.specs.declared.Refusal.{Refusal}
-use Rattle.answer.specs.declared.Answer.{Answer}
-use Rattle.answer.specs.declared.Answer.TheVariants as answer
+use Rattle.answer.specs.Rules.{Answer}
 use Rattle.checker.specs.Order.{ended}
 use Rattle.checker.specs.Line.{line_bytes}
 use Rattle.checker.specs.Machine.{start, line_of, sound, stepped, step_of}
 use Rattle.checker.specs.declared.Checker.{Checker}
+use Rattle.checker.specs.declared.totals.Totals.{Totals}
 use Rattle.checker.specs.declared.Stepped.{Stepped}
-use Rattle.files.specs.declared.whole.Outcome.{Outcome}
-use Rattle.files.specs.declared.whole.Outcome.TheVariants.{Accepted, Refused}
 
 -- lines are parts of 242 bytes; a last one may be shorter, and is not empty
 pub data Lines : List (List ℕ) → Type 0 where
@@ -30,12 +28,16 @@ lines_of bytes = cut (length bytes) bytes
 
 -- a refusal ends the steps
 abbrev pub unless : Answer → Stepped → Stepped → Stepped
-unless answer.Accepted on stop = on
-unless (answer.Refused r) on stop = stop
+unless (Ok tt) on stop = on
+unless (Err r) on stop = stop
 
 unfoldable pub steps : Checker → List (List ℕ) → Stepped
-steps s [] = stepped s answer.Accepted
+steps s [] = stepped s (Ok tt)
 steps s (l ∷ ls) = unless (step_of s l).answer (steps (step_of s l).state ls) (step_of s l)
+
+-- what is in an accepted file, or the first refusal
+abbrev pub Outcome : Type 0
+Outcome = Result Totals Refusal
 
 -- a call that the state does not allow
 abbrev pub out_of_turn : Refusal
@@ -43,11 +45,11 @@ out_of_turn = refusal 51 no_line 0
 
 -- the end, declared: behind the file trailer the totals, else 2
 unfoldable pub end_of : Checker → Outcome
-end_of s = cond (sound s) (cond (ended s.phase) (Accepted s.closed) (Refused (refusal 2 (line_of s) 0))) (Refused out_of_turn)
+end_of s = cond (sound s) (cond (ended s.phase) (Ok s.closed) (Err (refusal 2 (line_of s) 0))) (Err out_of_turn)
 
 abbrev pub outcome : Answer → Outcome → Outcome
-outcome answer.Accepted end = end
-outcome (answer.Refused r) end = Refused r
+outcome (Ok tt) end = end
+outcome (Err r) end = Err r
 
 -- lines, and then the end
 abbrev pub whole : Checker → List (List ℕ) → Outcome

@@ -1,14 +1,12 @@
 -- A file that arrives in parts of any length: the state behind the bytes so far, a call with a part, and the end. Assumes nothing.
-use Rattle.std.specs.Prelude.{Bool, not, cond, ◌&&◌, List, [], ◌∷◌, ◌++◌, ℕ, ◌-◌, ltb, length, take, replicate}
-use Rattle.answer.specs.declared.Answer.{Answer}
-use Rattle.answer.specs.declared.Answer.TheVariants as answer
+use Rattle.std.specs.Prelude.{Bool, not, cond, ◌&&◌, List, [], ◌∷◌, ◌++◌, ℕ, ◌-◌, ltb, length, take, replicate, Err, Ok}
+use Rattle.answer.specs.Rules.{Answer}
 use Rattle.checker.specs.Order.{ended}
 use Rattle.checker.specs.Line.{line_bytes}
 use Rattle.checker.specs.Machine.{start, step_of}
 use Rattle.checker.specs.declared.Checker.{Checker}
 use Rattle.files.specs.File.{lines_of, out_of_turn, finish}
-use Rattle.files.specs.declared.whole.Outcome.{Outcome}
-use Rattle.files.specs.declared.whole.Outcome.TheVariants as file
+use Rattle.files.specs.File.{Outcome}
 use Rattle.files.specs.declared.unfinished.Unfinished.{Unfinished}
 use Rattle.files.specs.declared.incoming.Status.{Status}
 use Rattle.files.specs.declared.incoming.Status.TheVariants.{Open, Refused, Ended}
@@ -37,8 +35,8 @@ waits m line = not (ended m.phase) && ltb (length line) line_bytes
 
 -- a refusal is for good; the lines before it stay counted
 abbrev pub unless_refused : Answer → Checker → Incoming → Incoming
-unless_refused answer.Accepted m on = on
-unless_refused (answer.Refused r) m on = state m [] (Refused r)
+unless_refused (Ok tt) m on = on
+unless_refused (Err r) m on = state m [] (Refused r)
 
 -- line by line: one that waits is kept as it is (it is the last: only that may be shorter), and every other is judged
 unfoldable pub arrive : Checker → List (List ℕ) → Incoming
@@ -54,9 +52,9 @@ arrived bytes = arrive start (lines_of bytes)
 
 -- what it answers, by the state behind it: go on; the refusal, again and again; 51 behind an accepted end
 abbrev pub answer_in : Status → Answer
-answer_in Open = answer.Accepted
-answer_in (Refused r) = answer.Refused r
-answer_in Ended = answer.Refused out_of_turn
+answer_in Open = Ok tt
+answer_in (Refused r) = Err r
+answer_in Ended = Err out_of_turn
 
 abbrev pub taken : Incoming → Taken
 taken s = record { state = s; answer = answer_in s.status }
@@ -75,8 +73,8 @@ part_call s part = taken (with_part s.status s part)
 
 -- accepted is ended; a refused end is a refusal like any other
 abbrev pub status_behind : Outcome → Status
-status_behind (file.Accepted t) = Ended
-status_behind (file.Refused r) = Refused r
+status_behind (Ok t) = Ended
+status_behind (Err r) = Refused r
 
 -- nothing waits any more
 abbrev pub concluded : Checker → Outcome → Finished
@@ -85,8 +83,8 @@ concluded m o = record { state = state m [] (status_behind o); outcome = o }
 -- the end of the input with the bytes that wait; what is refused or ended stays so
 abbrev pub with_end : Status → Incoming → Finished
 with_end Open s = concluded s.machine (finish s.machine (bytes_in s.line))
-with_end (Refused r) s = record { state = s; outcome = file.Refused r }
-with_end Ended s = record { state = s; outcome = file.Refused out_of_turn }
+with_end (Refused r) s = record { state = s; outcome = Err r }
+with_end Ended s = record { state = s; outcome = Err out_of_turn }
 
 -- state and outcome
 abbrev pub end_call : Incoming → Finished

@@ -57,8 +57,8 @@ fn status_by(answer: Answer) -> Status
     ensures { result ≡ status_by answer }
 {
     match answer {
-        Answer::Accepted => Status::Open,
-        Answer::Refused(r) => Status::Refused(r),
+        Ok(()) => Status::Open,
+        Err(r) => Status::Refused(r),
     }
 }
 
@@ -66,8 +66,8 @@ fn status_behind(outcome: Outcome) -> Status
     ensures { result ≡ status_behind outcome }
 {
     match outcome {
-        Outcome::Accepted(_) => Status::Ended,
-        Outcome::Refused(r) => Status::Refused(r),
+        Ok(_) => Status::Ended,
+        Err(r) => Status::Refused(r),
     }
 }
 
@@ -85,9 +85,7 @@ fn wait(machine: Checker, rest: &[u8]) -> Incoming
         };
     }
     let stepped = lines::run(machine, rest);
-    let state = stepped.state;
-    let answer = stepped.answer;
-    at_line_end(state, status_by(answer))
+    at_line_end(stepped.state, status_by(stepped.answer))
 }
 
 // Whole lines are checked where they lie; what is left of the bytes waits.
@@ -96,11 +94,9 @@ fn arrive(machine: Checker, bytes: &[u8]) -> Incoming
 {
     let whole = bytes.len() - bytes.len() % LINE_BYTES;
     let stepped = lines::run(machine, &bytes[0..whole]);
-    let state = stepped.state;
-    let answer = stepped.answer;
-    match answer {
-        Answer::Accepted => wait(state, &bytes[whole..]),
-        Answer::Refused(r) => at_line_end(state, Status::Refused(r)),
+    match stepped.answer {
+        Ok(()) => wait(stepped.state, &bytes[whole..]),
+        Err(r) => at_line_end(stepped.state, Status::Refused(r)),
     }
 }
 
@@ -115,12 +111,7 @@ impl Incoming {
     fn is_open(self) -> bool
         ensures { result ≡ is_open self.status }
     {
-        let status = self.status;
-        match status {
-            Status::Open => true,
-            Status::Refused(_) => false,
-            Status::Ended => false,
-        }
+        matches!(self.status, Status::Open)
     }
 
     // A part that the line that waits has room for.
@@ -129,9 +120,7 @@ impl Incoming {
         ensures { result ≡ arrive self.machine (lines_of (bytes_in self.line ++ first.now)) }
     {
         let line = self.line.with(first);
-        let bytes = line.bytes;
-        let count = line.count;
-        arrive(self.machine, &bytes[0..count])
+        arrive(self.machine, &line.bytes[0..line.count])
     }
 
     // A part, in an open state: first what goes to the line that waits, then the rest of it.
@@ -150,11 +139,10 @@ impl Incoming {
     fn answer(self) -> Answer
         ensures { result ≡ answer_in self.status }
     {
-        let status = self.status;
-        match status {
-            Status::Open => Answer::Accepted,
-            Status::Refused(r) => Answer::Refused(r),
-            Status::Ended => Answer::Refused(out_of_turn()),
+        match self.status {
+            Status::Open => Ok(()),
+            Status::Refused(r) => Err(r),
+            Status::Ended => Err(out_of_turn()),
         }
     }
 
@@ -179,16 +167,11 @@ impl Incoming {
     pub fn end(self) -> Finished
         ensures { result ≡ end_call self }
     {
-        let status = self.status;
-        match status {
-            Status::Open => self.conclude(),
-            Status::Refused(r) => Finished {
+        match self.answer() {
+            Ok(()) => self.conclude(),
+            Err(r) => Finished {
                 state: self,
-                outcome: Outcome::Refused(r),
-            },
-            Status::Ended => Finished {
-                state: self,
-                outcome: Outcome::Refused(out_of_turn()),
+                outcome: Err(r),
             },
         }
     }
@@ -197,10 +180,8 @@ impl Incoming {
     fn conclude(self) -> Finished
         ensures { result ≡ concluded self.machine (finish self.machine (bytes_in self.line)) }
     {
-        let line = self.line;
-        let bytes = line.bytes;
-        let count = line.len();
-        let outcome = finish(self.machine, &bytes[0..count]);
+        let count = self.line.len();
+        let outcome = finish(self.machine, &self.line.bytes[0..count]);
         Finished {
             state: at_line_end(self.machine, status_behind(outcome)),
             outcome,

@@ -29,25 +29,16 @@ impl Unfinished {
         ensures value { result ≡ length (bytes_in self) }
         ensures upper_bound { result ≤ line_bytes }
     {
-        if LINE_BYTES < self.count {
-            LINE_BYTES
-        } else {
-            self.count
-        }
+        self.count.min(LINE_BYTES)
     }
 
     // How many bytes of a part go to this line: what it lacks, if it is begun.
     pub(crate) fn share(self, part: usize) -> usize
         ensures { Share (length (bytes_in self)) part result }
     {
-        let len = self.len();
-        if len == 0 {
-            return 0;
-        }
-        if LINE_BYTES - len < part {
-            LINE_BYTES - len
-        } else {
-            part
+        match self.len() {
+            0 => 0,
+            len => part.min(LINE_BYTES - len),
         }
     }
 
@@ -59,7 +50,7 @@ impl Unfinished {
         let from = self.len();
         let count = from + more.len();
         let mut bytes = self.bytes;
-        layout::copy(more, &mut bytes[from..count]);
+        bytes[from..count].copy_from_slice(more);
         Unfinished { bytes, count }
     }
 }

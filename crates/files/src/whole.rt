@@ -3,15 +3,11 @@ ghost use Rattle.std.specs.Prelude.{◌≡◌};
 ghost use Rattle.files.specs.File.{out_of_turn, end_of, finish, check_file};
 
 use super::lines;
-use answer::{Answer, NO_LINE, Refusal, numbers};
+use answer::{NO_LINE, Refusal, numbers};
 use checker::{Checker, Totals};
 
 // What is in an accepted file, or the first refusal.
-#[derive(Clone, Copy)]
-pub enum Outcome {
-    Accepted(Totals),
-    Refused(Refusal),
-}
+pub type Outcome = Result<Totals, Refusal>;
 
 // A call that its state does not allow.
 pub(crate) fn out_of_turn() -> Refusal
@@ -29,12 +25,12 @@ pub fn end(at: Checker) -> Outcome
     ensures { result ≡ end_of at }
 {
     if !at.is_sound() {
-        return Outcome::Refused(out_of_turn());
+        return Err(out_of_turn());
     }
     if checker::is_ended(at.phase()) {
-        return Outcome::Accepted(at.closed());
+        return Ok(at.closed());
     }
-    Outcome::Refused(Refusal {
+    Err(Refusal {
         number: numbers::UNFINISHED,
         line: at.next_line(),
         place: 0,
@@ -46,12 +42,8 @@ pub(crate) fn finish(from: Checker, rest: &[u8]) -> Outcome
     ensures { result ≡ finish from rest.now }
 {
     let stepped = lines::run(from, rest);
-    let state = stepped.state;
-    let answer = stepped.answer;
-    match answer {
-        Answer::Accepted => end(state),
-        Answer::Refused(r) => Outcome::Refused(r),
-    }
+    stepped.answer?;
+    end(stepped.state)
 }
 
 // A whole file.

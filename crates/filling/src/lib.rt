@@ -15,9 +15,8 @@ use layout::{LineType, names};
 fn fill_line(v: Fields, bank: u64, batch: u64) -> Fields
     ensures { result ≡ filled_line v.which bank batch v }
 {
-    let which = v.which;
-    v.with_number(names::bank(which), bank)
-        .with_number(names::batch_number(which), batch)
+    v.with_number(names::bank(v.which), bank)
+        .with_number(names::batch_number(v.which), batch)
 }
 
 fn fill_in_batch(m: Checker, v: Fields) -> Fields
@@ -32,8 +31,7 @@ fn fill_detail(m: Checker, v: Fields) -> Fields
     requires { Bounded m }
     ensures { result ≡ filled_detail v.which m v }
 {
-    let which = v.which;
-    fill_in_batch(m, v).with_records(names::detail_number(which), m.current().records())
+    fill_in_batch(m, v).with_records(names::detail_number(v.which), m.current().records())
 }
 
 fn fill_batch_trailer(m: Checker, v: Fields) -> Fields
@@ -65,10 +63,8 @@ pub fn fill(m: Checker, v: Fields) -> Fields
     if !m.is_sound() {
         return v;
     }
-    let which = v.which;
-    let line = layout::shape_of(which).line;
-    match line {
-        LineType::FileFirst => v.with_number(names::batch_number(which), HEADER_BATCH),
+    match layout::shape_of(v.which).line {
+        LineType::FileFirst => v.with_number(names::batch_number(v.which), HEADER_BATCH),
         LineType::BatchFirst => fill_in_batch(m, v),
         LineType::Detail => fill_detail(m, v),
         LineType::BatchLast => fill_batch_trailer(m, v),

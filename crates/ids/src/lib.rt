@@ -2,8 +2,8 @@
 // digits of Receita Federal, as strings and as they stand in the fields of a record.
 #![tactic(auto)]
 
-ghost use Rattle.std.specs.Prelude.{◌≡◌, ◌-◌, length};
-ghost use Rattle.ids.specs.Ids.{registration_of, is_cpf, has_cnpj_characters, is_cnpj, characters_fit, all_zeros, id_fits};
+ghost use Rattle.std.specs.Prelude.{◌≡◌};
+ghost use Rattle.ids.specs.Ids.{registration_of, is_cpf, has_cnpj_characters, is_cnpj, on_the_right, in_front, characters_fit, all_zeros, id_fits};
 
 use digits::Modulus;
 
@@ -27,37 +27,32 @@ const CNPJ_CHARACTERS: usize = 14;
 const CNPJ_LETTERS: usize = 12;
 
 // By the byte of the type.
-pub fn registration_of(b: u8) -> Registration
-    ensures { result ≡ registration_of b }
-{
-    if b == CPF_TYPE {
-        return Registration::Cpf;
+impl From<u8> for Registration {
+    ghost from_gives = { λ b registration. registration ≡ registration_of b };
+
+    fn from(b: u8) -> Self {
+        match b {
+            CPF_TYPE => Registration::Cpf,
+            CNPJ_TYPE => Registration::Cnpj,
+            _ => Registration::Unchecked,
+        }
     }
-    if b == CNPJ_TYPE {
-        return Registration::Cnpj;
-    }
-    Registration::Unchecked
 }
 
 // Whether s is a CPF: eleven digits, the last two the check digits.
 pub fn is_cpf(s: &[u8]) -> bool
     ensures { result ≡ is_cpf s.now }
 {
-    if s.len() != CPF_DIGITS {
-        return false;
-    }
-    digits::all_digits(s) & digits::ends_right_twice(Modulus::LongEleven, s)
+    s.len() == CPF_DIGITS
+        && digits::all_digits(s) & digits::ends_right_twice(Modulus::LongEleven, s)
 }
 
 // Twelve digits or capital letters, and two digits.
 fn has_cnpj_characters(s: &[u8]) -> bool
     ensures { result ≡ has_cnpj_characters s.now }
 {
-    if s.len() != CNPJ_CHARACTERS {
-        return false;
-    }
-    let letters = digits::all_characters(&s[0..CNPJ_LETTERS]);
-    letters & digits::all_digits(&s[CNPJ_LETTERS..CNPJ_CHARACTERS])
+    s.len() == CNPJ_CHARACTERS
+        && digits::all_characters(&s[..CNPJ_LETTERS]) & digits::all_digits(&s[CNPJ_LETTERS..])
 }
 
 // Whether s is a CNPJ: fourteen such characters, the last two the check digits. The length is asked
@@ -65,30 +60,28 @@ fn has_cnpj_characters(s: &[u8]) -> bool
 pub fn is_cnpj(s: &[u8]) -> bool
     ensures { result ≡ is_cnpj s.now }
 {
-    if s.len() != CNPJ_CHARACTERS {
-        return false;
-    }
-    has_cnpj_characters(s) & digits::ends_right_twice(Modulus::PlainEleven, s)
+    s.len() == CNPJ_CHARACTERS
+        && has_cnpj_characters(s) & digits::ends_right_twice(Modulus::PlainEleven, s)
 }
 
-// How many bytes of a field stand in front of its last n.
-fn front(part: &[u8], n: usize) -> usize
-    ensures { result ≡ length part.now - n }
+// The last n bytes of a field, and those in front of them.
+fn split_at_last(part: &[u8], n: usize) -> (&[u8], &[u8])
+    ensures front { result.0.now ≡ in_front n part.now }
+    ensures last { result.1.now ≡ on_the_right n part.now }
 {
-    if part.len() < n { 0 } else { part.len() - n }
+    part.split_at(part.len().saturating_sub(n))
 }
 
 // Whether a field has the characters that its number may have.
+#[tactic(auto, unfolding(crate::specs::Ids::characters_fit))]
 pub fn characters_fit(registration: Registration, part: &[u8]) -> bool
     ensures { result ≡ characters_fit registration part.now }
 {
     match registration {
-        Registration::Unchecked => digits::all_digits(part),
-        Registration::Cpf => digits::all_digits(part),
+        Registration::Unchecked | Registration::Cpf => digits::all_digits(part),
         Registration::Cnpj => {
-            let first = front(part, CNPJ_CHARACTERS);
-            let digits_in_front = digits::all_digits(&part[0..first]);
-            digits_in_front & has_cnpj_characters(&part[first..part.len()])
+            let (front, number) = split_at_last(part, CNPJ_CHARACTERS);
+            digits::all_digits(front) & has_cnpj_characters(number)
         }
     }
 }
@@ -96,30 +89,23 @@ pub fn characters_fit(registration: Registration, part: &[u8]) -> bool
 fn are_zeros(s: &[u8]) -> bool
     ensures { result ≡ all_zeros s.now }
 {
-    let mut all = true;
-    let mut i = 0;
-    while i < s.len() {
-        all = all & (s[i] == b'0');
-        i += 1;
-    }
-    all
+    s.iter().fold(true, |all, b| all & (*b == b'0'))
 }
 
 // Whether a field holds a right number, on the right and behind zeros; type 0 is not checked.
+#[tactic(auto, unfolding(crate::specs::Ids::id_fits))]
 pub fn id_fits(registration: Registration, part: &[u8]) -> bool
     ensures { result ≡ id_fits registration part.now }
 {
     match registration {
         Registration::Unchecked => true,
         Registration::Cpf => {
-            let first = front(part, CPF_DIGITS);
-            let zeros = are_zeros(&part[0..first]);
-            zeros & is_cpf(&part[first..part.len()])
+            let (zeros, number) = split_at_last(part, CPF_DIGITS);
+            are_zeros(zeros) & is_cpf(number)
         }
         Registration::Cnpj => {
-            let first = front(part, CNPJ_CHARACTERS);
-            let zeros = are_zeros(&part[0..first]);
-            zeros & is_cnpj(&part[first..part.len()])
+            let (zeros, number) = split_at_last(part, CNPJ_CHARACTERS);
+            are_zeros(zeros) & is_cnpj(number)
         }
     }
 }

@@ -1,9 +1,8 @@
 -- Fields of digits, of digits or blanks, and of registration numbers, computed: one statement over one table, in both directions. Assumes nothing.
-use Rattle.std.specs.Prelude.{Bool, true, false, ◌&&◌, List, [], ◌∷◌, ◌++◌, ℕ, suc, T, eqb, length}
+use Rattle.std.specs.Prelude.{Bool, true, false, ◌&&◌, List, [], ◌∷◌, ◌++◌, ℕ, suc, T, eqb, length, Err, Ok}
 use Prim.Native.String.{String}
 use Rattle.answer.specs.Rules.{accepts, first_broken}
-use Rattle.answer.specs.declared.Answer.{Answer}
-use Rattle.answer.specs.declared.Answer.TheVariants.{Accepted, Refused}
+use Rattle.answer.specs.Rules.{Answer}
 use Rattle.digits.specs.Digits.{bytes, leading, every_byte}
 use Rattle.ids.specs.Ids.{characters_fit}
 use Rattle.layout.specs.Field.{Kind, N, NOrBlank, Id}
@@ -29,8 +28,8 @@ abbrev pub id_answer : String → String → Direction → Answer
 id_answer t s d = first_broken ((means Id).rules (a_part (suc (length (bytes t))) (bytes s) (bytes t ++ bytes s) d))
 
 abbrev pub refused_with : ℕ → ℕ → Answer → Bool
-refused_with number place Accepted = false
-refused_with number place (Refused r) = eqb r.number number && eqb r.place place
+refused_with number place (Ok tt) = false
+refused_with number place (Err r) = eqb r.number number && eqb r.place place
 
 abbrev pub holds_in : Direction → Example → Bool
 holds_in d (right k s) = accepts (answer k s d)

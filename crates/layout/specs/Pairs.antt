@@ -1,7 +1,6 @@
 -- Service and form: which pairs there are, and the kind of batch of each. Assumes nothing.
-use Rattle.std.specs.Prelude.{Bool, true, false, cond, ◌&&◌, ◌||◌, List, [], ◌∷◌, ℕ, eqb}
+use Rattle.std.specs.Prelude.{Bool, true, false, cond, ◌&&◌, ◌||◌, List, [], ◌∷◌, ℕ, eqb, Option}
 use Rattle.digits.specs.Numbers.{number_of}
-use Rattle.digits.specs.declared.spelling.Number.{Number}
 use Rattle.calendar.specs.Calendar.{number_fits}
 use Rattle.layout.specs.declared.Direction.{Direction}
 use Rattle.layout.specs.declared.Direction.TheVariants.{Remittance, Return}
@@ -32,7 +31,7 @@ among n [] = false
 among n (m ∷ ms) = eqb n m || among n ms
 
 -- the kind of batch of a service and a form
-abbrev pub batch_among : List Pairs → Number → Number → Batch
+abbrev pub batch_among : List Pairs → Option ℕ → Option ℕ → Batch
 batch_among [] service form = Unknown
 batch_among (p ∷ ps) service form =
     cond (number_fits (λ n. eqb n p.service) service && number_fits (λ n. among n p.forms) form) p.batch (batch_among ps service form)

@@ -1,5 +1,5 @@
 -- The records, a row each: what a record is to the file. Assumes nothing.
-use Rattle.std.specs.Prelude.{Bool, true, false, ◌||◌, List, [], ◌∷◌, ℕ, eqb}
+use Rattle.std.specs.Prelude.{Bool, true, false, ◌||◌, List, [], ◌∷◌, ℕ, eqb, None, Option, Some}
 use Rattle.digits.specs.Digits.{digit_byte}
 use Rattle.layout.specs.Field.{Field, field, N}
 use Rattle.layout.specs.declared.Record.{Record}
@@ -9,13 +9,13 @@ use Rattle.layout.specs.declared.shapes.LineType.TheVariants.{FileFirst, BatchFi
 use Rattle.layout.specs.declared.shapes.Phase.{Phase}
 use Rattle.layout.specs.declared.shapes.Phase.TheVariants.{Headed, Opened, Within, Paid, BehindZ, Closed, Ended}
 use Rattle.layout.specs.declared.shapes.Amount.{Amount}
-use Rattle.layout.specs.declared.shapes.Amount.TheVariants.{NoAmount, AmountOfA, AmountOfJ, AmountOfO}
+use Rattle.layout.specs.declared.shapes.Amount.TheVariants.{OfA, OfJ, OfO}
 use Rattle.layout.specs.declared.shapes.House.{House}
-use Rattle.layout.specs.declared.shapes.House.TheVariants.{NoRules, RulesOfJ, OneId, ThreeIds, RulesOfO}
+use Rattle.layout.specs.declared.shapes.House.TheVariants.{RulesOfJ, OneId, ThreeIds, RulesOfO}
 use Rattle.layout.specs.declared.shapes.Shape.{Shape}
 
 -- a row: the record's number in the table; the type of its line; the letter of a detail; the phase behind it; its amount; what the house asks of it
-abbrev pub shape : ℕ → LineType → ℕ → Phase → Amount → House → Shape
+abbrev pub shape : ℕ → LineType → ℕ → Phase → Option Amount → Option House → Shape
 shape code line letter after amount house =
     record { code = code; line = line; letter = letter; after = after; amount = amount; house = house }
 
@@ -27,16 +27,16 @@ abbrev pub letter_z : ℕ
 letter_z = 90
 
 abbrev pub shape_of : Record → Shape
-shape_of FileHeader = shape 0 FileFirst no_letter Headed NoAmount OneId
-shape_of BatchHeader = shape 1 BatchFirst no_letter Opened NoAmount OneId
-shape_of SegmentA = shape 2 Detail 65 (Within 1) AmountOfA NoRules
-shape_of SegmentB = shape 3 Detail 66 Paid NoAmount OneId
-shape_of SegmentJ = shape 4 Detail 74 (Within 1) AmountOfJ RulesOfJ
-shape_of SegmentJ52 = shape 5 Detail 74 Paid NoAmount ThreeIds
-shape_of SegmentZ = shape 6 Detail letter_z BehindZ NoAmount NoRules
-shape_of BatchTrailer = shape 7 BatchLast no_letter Closed NoAmount NoRules
-shape_of FileTrailer = shape 8 FileLast no_letter Ended NoAmount NoRules
-shape_of SegmentO = shape 9 Detail 79 Paid AmountOfO RulesOfO
+shape_of FileHeader = shape 0 FileFirst no_letter Headed None (Some OneId)
+shape_of BatchHeader = shape 1 BatchFirst no_letter Opened None (Some OneId)
+shape_of SegmentA = shape 2 Detail 65 (Within 1) (Some OfA) None
+shape_of SegmentB = shape 3 Detail 66 Paid None (Some OneId)
+shape_of SegmentJ = shape 4 Detail 74 (Within 1) (Some OfJ) (Some RulesOfJ)
+shape_of SegmentJ52 = shape 5 Detail 74 Paid None (Some ThreeIds)
+shape_of SegmentZ = shape 6 Detail letter_z BehindZ None None
+shape_of BatchTrailer = shape 7 BatchLast no_letter Closed None None
+shape_of FileTrailer = shape 8 FileLast no_letter Ended None None
+shape_of SegmentO = shape 9 Detail 79 Paid (Some OfO) (Some RulesOfO)
 
 -- all of them, in the order of their numbers
 abbrev pub records : List Record
@@ -86,11 +86,11 @@ boleto_amount = field 153 167 N
 abbrev pub collection_amount : Field
 collection_amount = field 108 122 N
 
-abbrev pub amount_field : Amount → List Field
-amount_field NoAmount = []
-amount_field AmountOfA = credit_amount ∷ []
-amount_field AmountOfJ = boleto_amount ∷ []
-amount_field AmountOfO = collection_amount ∷ []
+abbrev pub amount_field : Option Amount → List Field
+amount_field None = []
+amount_field (Some OfA) = credit_amount ∷ []
+amount_field (Some OfJ) = boleto_amount ∷ []
+amount_field (Some OfO) = collection_amount ∷ []
 
 abbrev pub amounts_of : Record → List Field
 amounts_of r = amount_field (shape_of r).amount

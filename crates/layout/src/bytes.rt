@@ -6,9 +6,6 @@ ghost use Rattle.answer.specs.Output.{over};
 pub fn copy(text: &[u8], out: &mut [u8])
     ensures { out.new ≡ over text.now out.old }
 {
-    let mut i = 0;
-    while i < text.len() && i < out.len() {
-        out[i] = text[i];
-        i += 1;
-    }
+    let both = text.len().min(out.len());
+    out[..both].copy_from_slice(&text[..both]);
 }

@@ -25,7 +25,7 @@ pub enum Content {
 fn byte_in(text: &[u8], i: usize) -> u8
     ensures { result ≡ get_or text.now i 0 }
 {
-    if i < text.len() { text[i] } else { 0 }
+    text.get(i).copied().unwrap_or(0)
 }
 
 impl Content {
@@ -45,10 +45,8 @@ impl Content {
     pub fn write(self, part: &mut [u8])
         ensures { part.new ≡ content_of self (length part.old) }
     {
-        let mut i = 0;
-        while i < part.len() {
-            part[i] = self.byte_at(i);
-            i += 1;
+        for (i, byte) in part.iter_mut().enumerate() {
+            *byte = self.byte_at(i);
         }
     }
 }

@@ -17,15 +17,15 @@ pub use kinds::{Fill, fill_of};
 pub use pairs::{Batch, batch_of, batch_with};
 pub use registrations::registration_at;
 pub use shapes::{Amount, House, LineType, Phase, Shape, is_same, shape_of};
-pub use table::{Entry, FIELDS, FROM, KIND, Span, TO, entry_at, span_of, wide};
+pub use table::{Entry, FIELDS, FROM, KIND, Span, TABLE, TO, Table, field_at, span_of, wide};
 
-#[derive(Clone, Copy)]
+#[derive(Clone, Copy, PartialEq, Eq)]
 pub enum Direction {
     Remittance,
     Return,
 }
 
-#[derive(Clone, Copy)]
+#[derive(Clone, Copy, PartialEq, Eq)]
 pub enum Record {
     FileHeader,
     BatchHeader,

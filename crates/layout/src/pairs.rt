@@ -1,10 +1,8 @@
 // Service and form: the kind of batch that they make.
-ghost use Rattle.std.specs.Prelude.{◌≡◌};
-ghost use Rattle.digits.specs.declared.spelling.Number.TheVariants.{Is};
+ghost use Rattle.std.specs.Prelude.{◌≡◌, Some};
 ghost use Rattle.layout.specs.Pairs.{boleto_service, pairs, batch_among, batch_of};
 
 use super::Direction;
-use digits::Number;
 
 #[derive(Clone, Copy)]
 pub enum Batch {
@@ -31,7 +29,7 @@ fn boleto_service(dir: Direction) -> u64
 
 // The kind of batch of a service and a form.
 pub fn batch_with(dir: Direction, service: u64, form: u64) -> Batch
-    ensures { result ≡ batch_among (pairs dir) (Is service) (Is form) }
+    ensures { result ≡ batch_among (pairs dir) (Some service) (Some form) }
 {
     let credit_form = (form == 1) | ((form == 10) | ((form == 41) | (form == 45)));
     if (service == CREDIT_SERVICE) & credit_form {
@@ -51,10 +49,10 @@ pub fn batch_with(dir: Direction, service: u64, form: u64) -> Batch
 pub fn batch_of(dir: Direction, service: &[u8], form: &[u8]) -> Batch
     ensures { result ≡ batch_of dir service.now form.now }
 {
-    let Number::Is(s) = digits::number_of(service) else {
+    let Some(s) = digits::number_of(service) else {
         return Batch::Unknown;
     };
-    let Number::Is(f) = digits::number_of(form) else {
+    let Some(f) = digits::number_of(form) else {
         return Batch::Unknown;
     };
     batch_with(dir, s, f)

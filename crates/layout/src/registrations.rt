@@ -20,5 +20,5 @@ pub fn registration_at(rec: &[u8], from: usize) -> Registration
     if rec.len() <= at {
         return Registration::Unchecked;
     }
-    ids::registration_of(rec[at])
+    Registration::from(rec[at])
 }

@@ -1,14 +1,13 @@
 // The records, a row each: what a record is to the file.
-ghost use Rattle.std.specs.Prelude.{◌≡◌, eqb};
+ghost use Rattle.std.specs.Prelude.{◌≡◌, eqb, Some, None};
 ghost use Rattle.layout.specs.Records.{code, is_detail, shape, no_letter, shape_of};
 ghost use Rattle.layout.specs.declared.shapes.LineType.TheVariants.{Detail};
-ghost use Rattle.layout.specs.declared.shapes.Amount.TheVariants.{NoAmount};
-ghost use Rattle.layout.specs.declared.shapes.House.TheVariants.{NoRules, OneId};
+ghost use Rattle.layout.specs.declared.shapes.House.TheVariants.{OneId};
 
 use super::Record;
 
 // The type of a line, by what it is to the file: 0, 1, 3, 5 and 9.
-#[derive(Clone, Copy)]
+#[derive(Clone, Copy, PartialEq, Eq)]
 pub enum LineType {
     FileFirst,
     BatchFirst,
@@ -22,19 +21,13 @@ impl LineType {
     pub fn is_detail(self) -> bool
         ensures { result ≡ is_detail self }
     {
-        match self {
-            LineType::FileFirst => false,
-            LineType::BatchFirst => false,
-            LineType::Detail => true,
-            LineType::BatchLast => false,
-            LineType::FileLast => false,
-        }
+        matches!(self, LineType::Detail)
     }
 }
 
 // By what was accepted last: nothing, the file header, a batch header, so many records of a payment that
 // has more, its last, a Z, a batch trailer, the file trailer.
-#[derive(Clone, Copy)]
+#[derive(Clone, Copy, PartialEq, Eq)]
 pub enum Phase {
     Start,
     Headed,
@@ -47,18 +40,16 @@ pub enum Phase {
 }
 
 // The amount of a payment, which its first record has.
-#[derive(Clone, Copy)]
+#[derive(Clone, Copy, PartialEq, Eq)]
 pub enum Amount {
-    NoAmount,
-    AmountOfA,
-    AmountOfJ,
-    AmountOfO,
+    OfA,
+    OfJ,
+    OfO,
 }
 
 // What the house asks of a record behind its fields.
-#[derive(Clone, Copy)]
+#[derive(Clone, Copy, PartialEq, Eq)]
 pub enum House {
-    NoRules,
     RulesOfJ,
     OneId,
     ThreeIds,
@@ -73,39 +64,45 @@ pub struct Shape {
     pub line: LineType,
     pub letter: u8,
     pub after: Phase,
-    pub amount: Amount,
-    pub house: House,
+    pub amount: Option<Amount>,
+    pub house: Option<House>,
 }
 
 const NO_LETTER: u8 = 0;
 
 fn header(code: usize, line: LineType, after: Phase) -> Shape
-    ensures { result ≡ shape code line no_letter after NoAmount OneId }
+    ensures { result ≡ shape code line no_letter after None (Some OneId) }
 {
     Shape {
         code,
         line,
         letter: NO_LETTER,
         after,
-        amount: Amount::NoAmount,
-        house: House::OneId,
+        amount: None,
+        house: Some(House::OneId),
     }
 }
 
 fn trailer(code: usize, line: LineType, after: Phase) -> Shape
-    ensures { result ≡ shape code line no_letter after NoAmount NoRules }
+    ensures { result ≡ shape code line no_letter after None None }
 {
     Shape {
         code,
         line,
         letter: NO_LETTER,
         after,
-        amount: Amount::NoAmount,
-        house: House::NoRules,
+        amount: None,
+        house: None,
     }
 }
 
-fn detail(code: usize, letter: u8, after: Phase, amount: Amount, house: House) -> Shape
+fn detail(
+    code: usize,
+    letter: u8,
+    after: Phase,
+    amount: Option<Amount>,
+    house: Option<House>,
+) -> Shape
     ensures { result ≡ shape code Detail letter after amount house }
 {
     Shape {
@@ -125,20 +122,26 @@ pub fn shape_of(which: Record) -> Shape
     match which {
         Record::FileHeader => header(0, LineType::FileFirst, Phase::Headed),
         Record::BatchHeader => header(1, LineType::BatchFirst, Phase::Opened),
-        Record::SegmentA => detail(2, b'A', Phase::Within(1), Amount::AmountOfA, House::NoRules),
-        Record::SegmentB => detail(3, b'B', Phase::Paid, Amount::NoAmount, House::OneId),
+        Record::SegmentA => detail(2, b'A', Phase::Within(1), Some(Amount::OfA), None),
+        Record::SegmentB => detail(3, b'B', Phase::Paid, None, Some(House::OneId)),
         Record::SegmentJ => detail(
             4,
             b'J',
             Phase::Within(1),
-            Amount::AmountOfJ,
-            House::RulesOfJ,
+            Some(Amount::OfJ),
+            Some(House::RulesOfJ),
         ),
-        Record::SegmentJ52 => detail(5, b'J', Phase::Paid, Amount::NoAmount, House::ThreeIds),
-        Record::SegmentZ => detail(6, b'Z', Phase::BehindZ, Amount::NoAmount, House::NoRules),
+        Record::SegmentJ52 => detail(5, b'J', Phase::Paid, None, Some(House::ThreeIds)),
+        Record::SegmentZ => detail(6, b'Z', Phase::BehindZ, None, None),
         Record::BatchTrailer => trailer(7, LineType::BatchLast, Phase::Closed),
         Record::FileTrailer => trailer(8, LineType::FileLast, Phase::Ended),
-        Record::SegmentO => detail(9, b'O', Phase::Paid, Amount::AmountOfO, House::RulesOfO),
+        Record::SegmentO => detail(
+            9,
+            b'O',
+            Phase::Paid,
+            Some(Amount::OfO),
+            Some(House::RulesOfO),
+        ),
     }
 }
 
@@ -146,5 +149,5 @@ pub fn shape_of(which: Record) -> Shape
 pub fn is_same(which: Record, other: Record) -> bool
     ensures { result ≡ eqb (code which) (code other) }
 {
-    shape_of(which).code == shape_of(other).code
+    which == other
 }

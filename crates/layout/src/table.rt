@@ -1,7 +1,8 @@
 // The table as numbers: first place, last place and kind of each field, one record after the other.
-// Whoever walks fields binds it once and lends it down.
-ghost use Rattle.std.specs.Prelude.{◌≡◌};
-ghost use Rattle.layout.specs.inner.Lent.{span_of, in_column, entry_in};
+ghost use Rattle.std.specs.Prelude.{◌≡◌, get_or};
+ghost use Rattle.layout.specs.Field.{none};
+ghost use Rattle.layout.specs.Table.{all};
+ghost use Rattle.layout.specs.inner.Lent.{span_of, entry_in, field_of};
 
 use super::Record;
 use super::kinds::{
@@ -237,18 +238,60 @@ pub const KIND: [u8; FIELDS] = [
     O,
 ];
 
-// The fields of a record: the first, and the one past the last.
+// The columns of a table: first places, last places and kinds.
 #[derive(Clone, Copy)]
-pub struct Span {
-    pub first: usize,
-    pub past: usize,
+pub struct Table {
+    pub from: [u8; FIELDS],
+    pub to: [u8; FIELDS],
+    pub kind: [u8; FIELDS],
 }
+
+pub const TABLE: Table = Table {
+    from: FROM,
+    to: TO,
+    kind: KIND,
+};
 
 #[derive(Clone, Copy)]
 pub struct Entry {
     pub from: usize,
     pub to: usize,
     pub kind: u8,
+}
+
+impl Table {
+    // An entry; past the table's end 0s.
+    pub fn entry_at(&self, f: usize) -> Entry
+        ensures { result ≡ entry_in self.now f }
+    {
+        if f < FIELDS {
+            Entry {
+                from: wide(self.from[f]),
+                to: wide(self.to[f]),
+                kind: self.kind[f],
+            }
+        } else {
+            Entry {
+                from: 0,
+                to: 0,
+                kind: 0,
+            }
+        }
+    }
+}
+
+// A field of the layout, by its number among those of all records.
+pub fn field_at(f: usize) -> Entry
+    ensures { field_of result ≡ get_or all f none }
+{
+    TABLE.entry_at(f)
+}
+
+// The fields of a record: the first, and the one past the last.
+#[derive(Clone, Copy)]
+pub struct Span {
+    pub first: usize,
+    pub past: usize,
 }
 
 // Where a record's fields stand in the table.
@@ -266,23 +309,5 @@ pub fn span_of(which: Record) -> Span
 pub fn wide(b: u8) -> usize
     ensures { result ≡ b }
 {
-    b as usize
-}
-
-// A number of a column; past its end 0.
-fn in_column(column: &[u8; FIELDS], f: usize) -> u8
-    ensures { result ≡ in_column column.now f }
-{
-    if f < FIELDS { column[f] } else { 0 }
-}
-
-// An entry of the table, whose columns the caller lends.
-pub fn entry_at(from: &[u8; FIELDS], to: &[u8; FIELDS], kind: &[u8; FIELDS], f: usize) -> Entry
-    ensures { result ≡ entry_in from.now to.now kind.now f }
-{
-    Entry {
-        from: wide(in_column(from, f)),
-        to: wide(in_column(to, f)),
-        kind: in_column(kind, f),
-    }
+    usize::from(b)
 }

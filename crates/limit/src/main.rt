@@ -37,90 +37,89 @@ const EMPTY_PAYMENTS: u64 = 8999;
 
 const NO_CENTS: Cents = Cents(0);
 
-// The state behind a call. A refusal is printed; it left state and output as they were.
-fn state_after(rt: &impl Print, written: Written) -> io::Result<Writer> {
-    let answer = written.answer;
-    if !answer.is_accepted() {
-        Line::of_answer(answer).print(rt)?;
-    }
-    Ok(written.state)
-}
-
-fn pay(
-    rt: &impl Print,
+// A file as it is written, into lent memory. Each refusal is printed.
+#[derive(Drop)]
+struct Desk<'a, R> {
+    rt: &'a R,
     state: Writer,
-    movement: u64,
-    cents: Cents,
-    out: &mut [u8],
-) -> io::Result<Writer> {
-    let payment = Payment::of_two(records::credit(movement, cents), records::payee());
-    state_after(rt, state.payment(payment, out))
+    out: &'a mut [u8],
 }
 
-fn pay_often(
-    rt: &impl Print,
-    state: Writer,
-    times: u64,
-    movement: u64,
-    cents: Cents,
-    out: &mut [u8],
-) -> io::Result<Writer> {
-    let mut state = state;
-    for _ in 0..times {
-        state = pay(rt, state, movement, cents, out)?;
+impl<R: Print> Desk<'_, R> {
+    // Goes on behind a call. A refused one left state and output as they were.
+    fn go_on(&mut self, call: Written) -> io::Result<()> {
+        if let Err(refusal) = call.answer {
+            self.rt.println(Line::from(refusal))?;
+        }
+        self.state = call.state;
+        Ok(())
     }
-    Ok(state)
-}
 
-fn open(rt: &impl Print, out: &mut [u8]) -> io::Result<Writer> {
-    let state = state_after(rt, Writer::start().open_file(records::file_header(), out))?;
-    state_after(rt, state.open_batch(records::batch_header(), out))
-}
+    fn open(&mut self) -> io::Result<()> {
+        let opened = self.state.open_file(records::file_header(), self.out);
+        self.go_on(opened)?;
+        let opened = self.state.open_batch(records::batch_header(), self.out);
+        self.go_on(opened)
+    }
 
-// A live payment, and a withdrawn one.
-fn pay_either(rt: &impl Print, state: Writer, cents: Cents, out: &mut [u8]) -> io::Result<Writer> {
-    let state = pay(rt, state, LIVE, cents, out)?;
-    pay(rt, state, WITHDRAWN, cents, out)
-}
+    fn pay(&mut self, movement: u64, cents: Cents) -> io::Result<()> {
+        let payment = Payment::of_two(records::credit(movement, cents), records::payee());
+        let paid = self.state.payment(payment, self.out);
+        self.go_on(paid)
+    }
 
-fn pay_large(rt: &impl Print, state: Writer, out: &mut [u8]) -> io::Result<Writer> {
-    let state = pay_often(rt, state, LARGE_PAYMENTS, LIVE, MOST_CENTS, out)?;
-    pay_often(rt, state, LARGE_PAYMENTS, WITHDRAWN, MOST_CENTS, out)
-}
+    fn pay_often(&mut self, times: u64, movement: u64, cents: Cents) -> io::Result<()> {
+        for _ in 0..times {
+            self.pay(movement, cents)?;
+        }
+        Ok(())
+    }
 
-fn pay_to_the_cent(rt: &impl Print, state: Writer, out: &mut [u8]) -> io::Result<Writer> {
-    let state = pay_large(rt, state, out)?;
-    let state = pay_either(rt, state, TOO_MANY_CENTS, out)?;
-    pay(rt, state, LIVE, LAST_CENTS, out)
-}
+    // A live payment, and a withdrawn one.
+    fn pay_either(&mut self, cents: Cents) -> io::Result<()> {
+        self.pay(LIVE, cents)?;
+        self.pay(WITHDRAWN, cents)
+    }
 
-fn pay_to_the_last(rt: &impl Print, state: Writer, out: &mut [u8]) -> io::Result<Writer> {
-    let state = pay_often(rt, state, EMPTY_PAYMENTS, WITHDRAWN, NO_CENTS, out)?;
-    pay_either(rt, state, NO_CENTS, out)
-}
+    fn pay_to_the_cent(&mut self) -> io::Result<()> {
+        self.pay_often(LARGE_PAYMENTS, LIVE, MOST_CENTS)?;
+        self.pay_often(LARGE_PAYMENTS, WITHDRAWN, MOST_CENTS)?;
+        self.pay_either(TOO_MANY_CENTS)?;
+        self.pay(LIVE, LAST_CENTS)
+    }
 
-fn close(rt: &impl Print, state: Writer, out: &mut [u8]) -> io::Result<()> {
-    let state = state_after(
-        rt,
-        state.close_batch(Fields::blank(Record::BatchTrailer), out),
-    )?;
-    state_after(
-        rt,
-        state.close_file(Fields::blank(Record::FileTrailer), out),
-    )?;
-    Ok(())
+    fn pay_to_the_last(&mut self) -> io::Result<()> {
+        self.pay_often(EMPTY_PAYMENTS, WITHDRAWN, NO_CENTS)?;
+        self.pay_either(NO_CENTS)
+    }
+
+    fn close(&mut self) -> io::Result<()> {
+        let closed = self
+            .state
+            .close_batch(Fields::blank(Record::BatchTrailer), self.out);
+        self.go_on(closed)?;
+        let closed = self
+            .state
+            .close_file(Fields::blank(Record::FileTrailer), self.out);
+        self.go_on(closed)
+    }
 }
 
 fn write_file(rt: &impl Print, out: &mut [u8]) -> io::Result<()> {
-    let state = open(rt, out)?;
-    let state = pay_to_the_cent(rt, state, out)?;
-    let state = pay_to_the_last(rt, state, out)?;
-    close(rt, state, out)
+    let mut desk = Desk {
+        rt,
+        state: Writer::start(),
+        out,
+    };
+    desk.open()?;
+    desk.pay_to_the_cent()?;
+    desk.pay_to_the_last()?;
+    desk.close()
 }
 
-fn write_and_read(rt: &impl Print, file: &mut [u8]) -> io::Result<()> {
+fn write_and_read(rt: &impl Print, file: &mut [u8; FILE_BYTES]) -> io::Result<()> {
     write_file(rt, file)?;
-    Line::of_outcome(files::check_file(file)).print(rt)
+    rt.println(Line::from(files::check_file(file)))
 }
 
 fn main(rt: HostRuntime) -> io::Result<()> {

@@ -25,13 +25,11 @@
 
 mod header;
 mod parts;
+mod payload;
 mod print;
 mod records;
 mod scripts;
 mod whole;
-
-ghost use Rattle.std.specs.Prelude.{◌≡◌, length};
-ghost use Rattle.probe.specs.inner.Sizes.{most_announced, most_bytes};
 
 use boleto::collection;
 use header::{Header, Op};
@@ -49,15 +47,9 @@ const HEADER_BYTES: usize = 16;
 // What output memory holds before a call.
 const UNTOUCHED: u8 = 170;
 
-fn fill(out: &mut [u8], byte: u8) {
-    for place in out.iter_mut() {
-        *place = byte;
-    }
-}
-
 // Makes the call, and writes its answer and the output memory.
 fn call(rt: &impl Print, op: Op, payload: &[u8], out: &mut [u8]) -> io::Result<()> {
-    fill(out, UNTOUCHED);
+    out.fill(UNTOUCHED);
     match op {
         Op::BarcodeToLine => print::memory(rt, boleto::barcode_to_line(payload, out), out),
         Op::LineToBarcode => print::memory(rt, boleto::line_to_barcode(payload, out), out),
@@ -67,9 +59,8 @@ fn call(rt: &impl Print, op: Op, payload: &[u8], out: &mut [u8]) -> io::Result<(
         Op::WriteRecord(which, dir) => records::write(rt, payload, which, dir, out),
         Op::CheckFile => whole::check(rt, payload),
         Op::StepLines => whole::step_lines(rt, payload),
-        Op::TakeParts => parts::take(rt, payload),
+        Op::TakeParts => parts::take_parts(rt, payload),
         Op::Script => scripts::run(rt, payload, out),
-        Op::Malformed => print::malformed(rt),
     }
 }
 
@@ -86,13 +77,10 @@ fn filled(source: &mut impl Read, buf: &mut [u8]) -> io::Result<bool> {
 fn serve(
     rt: &impl Print,
     source: &mut impl Read,
-    payload: &mut [u8],
-    out: &mut [u8],
-) -> io::Result<bool>
-    requires payload_len { length payload.old ≡ most_announced }
-    requires out_len { length out.old ≡ most_bytes }
-{
-    let mut head = [0u8; HEADER_BYTES];
+    payload: &mut [u8; MOST_ANNOUNCED],
+    out: &mut [u8; MOST_BYTES],
+) -> io::Result<bool> {
+    let mut head = [0; HEADER_BYTES];
     if !filled(source, &mut head)? {
         return Ok(false);
     }
@@ -100,7 +88,10 @@ fn serve(
     if !filled(source, &mut payload[..length])? {
         return Ok(false);
     }
-    call(rt, op, &payload[..length], &mut out[..room])?;
+    match op {
+        Some(op) => call(rt, op, &payload[..length], &mut out[..room])?,
+        None => print::malformed(rt)?,
+    }
     Ok(true)
 }
 
@@ -109,12 +100,9 @@ fn serve(
 fn serve_all(
     rt: &impl Print,
     source: &mut impl Read,
-    payload: &mut [u8],
-    out: &mut [u8],
-) -> io::Result<()>
-    requires payload_len { length payload.old ≡ most_announced }
-    requires out_len { length out.old ≡ most_bytes }
-{
+    payload: &mut [u8; MOST_ANNOUNCED],
+    out: &mut [u8; MOST_BYTES],
+) -> io::Result<()> {
     for _ in 0..u64::MAX {
         if !serve(rt, source, payload, out)? {
             break;
@@ -123,20 +111,8 @@ fn serve_all(
     Ok(())
 }
 
-fn payload_memory() -> [u8; MOST_ANNOUNCED]
-    ensures { length result ≡ most_announced }
-{
-    [0; MOST_ANNOUNCED]
-}
-
-fn output_memory() -> [u8; MOST_BYTES]
-    ensures { length result ≡ most_bytes }
-{
-    [0; MOST_BYTES]
-}
-
 fn main(rt: HostRuntime) -> io::Result<()> {
-    let mut payload = payload_memory();
-    let mut out = output_memory();
+    let mut payload = [0; MOST_ANNOUNCED];
+    let mut out = [0; MOST_BYTES];
     serve_all(&rt, &mut rt.stdin(), &mut payload, &mut out)
 }

@@ -1,87 +1,32 @@
 // A whole file, and lines one call at a time.
-ghost use Rattle.std.specs.Prelude.{◌≤◌, ◌<◌, length};
-
-use super::header::DIGITS;
-use super::{header, print};
+use super::payload::{Payload, Step};
+use super::{payload, print};
 use checker::Checker;
-use digits::Number;
 use std::io;
 
-// Where the bytes of a call stand in the payload; not right where it has no such call.
+// The bytes of a call.
 #[derive(Clone, Copy)]
-pub(crate) struct Call {
-    pub(crate) right: bool,
-    pub(crate) start: usize,
-    pub(crate) end: usize,
+struct Call<'a>(&'a [u8]);
+
+impl<'a> Step<'a> for Call<'a> {
+    fn read(payload: &mut Payload<'a>) -> Option<Call<'a>> {
+        payload.counted().map(Call)
+    }
 }
 
 pub(crate) fn check(rt: &impl Print, payload: &[u8]) -> io::Result<()> {
-    print::outcome(rt, files::check_file(payload))
-}
-
-pub(crate) fn no_call(payload: &[u8]) -> Call
-    ensures { (result.start ≤ result.end) × (length payload.now ≤ result.end) × (result.end ≤ length payload.now) }
-{
-    Call {
-        right: false,
-        start: payload.len(),
-        end: payload.len(),
-    }
-}
-
-// The call that begins at this index of the payload.
-pub(crate) fn call_at(payload: &[u8], at: usize) -> Call
-    requires { at < length payload.now }
-    ensures { (result.start ≤ result.end) × (at < result.end) × (result.end ≤ length payload.now) }
-{
-    if payload.len() - at < DIGITS {
-        return no_call(payload);
-    }
-    let start = at + DIGITS;
-    let Number::Is(n) = header::announced(payload, at) else {
-        return no_call(payload);
-    };
-    let length = n as usize;
-    if payload.len() - start < length {
-        return no_call(payload);
-    }
-    Call {
-        right: true,
-        start,
-        end: start + length,
-    }
-}
-
-fn are_calls(payload: &[u8]) -> bool {
-    let mut at = 0;
-    while at < payload.len() {
-        let call = call_at(payload, at);
-        if !call.right {
-            return false;
-        }
-        at = call.end;
-    }
-    true
-}
-
-fn make_calls(rt: &impl Print, payload: &[u8]) -> io::Result<()> {
-    let mut state = Checker::start();
-    let mut at = 0;
-    while at < payload.len() {
-        let call = call_at(payload, at);
-        let stepped = state.step(&payload[call.start..call.end]);
-        print::line(rt, stepped.answer)?;
-        state = stepped.state;
-        at = call.end;
-    }
-    print::outcome(rt, files::end(state))
+    print::line(rt, files::check_file(payload))
 }
 
 // A payload that is no list of calls makes none.
 pub(crate) fn step_lines(rt: &impl Print, payload: &[u8]) -> io::Result<()> {
-    if are_calls(payload) {
-        make_calls(rt, payload)
-    } else {
-        print::malformed(rt)
+    let behind = payload::take_steps(payload, Checker::start(), |state: Checker, Call(line)| {
+        let stepped = state.step(line);
+        print::line(rt, stepped.answer)?;
+        Ok(stepped.state)
+    })?;
+    match behind {
+        Some(state) => print::line(rt, files::end(state)),
+        None => print::malformed(rt),
     }
 }

@@ -1,11 +1,10 @@
 -- How calls end: document 01's table of numbers with their places, and what is said of every call on the checker, on the checker in parts,
 -- on the writer, with one record and with digit strings. Assumes nothing.
-use Rattle.std.specs.Prelude.{◌≡◌, ◌⊎◌, ◌≢◌, Bool, false, cond, ◌&&◌, ◌||◌, List, [], ◌∷◌, ℕ, suc, ◌+◌, ◌≤◌, ◌<◌, T, leb, eqb, length}
+use Rattle.std.specs.Prelude.{◌≡◌, ◌⊎◌, ◌≢◌, Bool, false, cond, ◌&&◌, ◌||◌, List, [], ◌∷◌, ℕ, suc, ◌+◌, ◌≤◌, ◌<◌, T, leb, eqb, length, Result, Err, Ok}
 use Rattle.answer.specs.Rules.{first_broken}
 use Rattle.answer.specs.Output.{Writes}
 use Rattle.answer.specs.declared.Refusal.{Refusal}
-use Rattle.answer.specs.declared.Answer.{Answer}
-use Rattle.answer.specs.declared.Answer.TheVariants.{Accepted, Refused}
+use Rattle.answer.specs.Rules.{Answer}
 use Rattle.boleto.specs.Strings.{currency_place, barcode_check, line_check}
 use Rattle.boleto.specs.Collection.{code_line_digits, product_place, identifier_place, code_check}
 use Rattle.layout.specs.Pairs.{among}
@@ -15,7 +14,7 @@ use Rattle.layout.specs.Records.{boleto_amount}
 use Rattle.layout.specs.Record.{record_rules}
 use Rattle.layout.specs.declared.Direction.{Direction}
 use Rattle.layout.specs.declared.Record.{Record}
-use Rattle.fields.specs.Values.{record_of, read_record, no_fields}
+use Rattle.fields.specs.Values.{record_of, read_record}
 use Rattle.fields.specs.declared.Fields.{Fields}
 use Rattle.checker.specs.Line.{line_bytes, general_place, factor_place, cents_place, code_place}
 use Rattle.checker.specs.Machine.{start, line_of, step_of}
@@ -23,13 +22,10 @@ use Rattle.files.specs.File.{lines_of, end_of, check_file}
 use Rattle.files.specs.Parts.{arrived, part_call, end_call}
 use Rattle.files.specs.Calls.{PartsCall, behind_call, fed}
 use Rattle.checker.specs.Calls.{Reached}
-use Rattle.checker.specs.declared.totals.Totals.{Totals}
 use Rattle.checker.specs.declared.Checker.{Checker}
-use Rattle.files.specs.declared.whole.Outcome.{Outcome}
 use Rattle.files.specs.declared.incoming.Status.{Status}
 use Rattle.files.specs.declared.incoming.Status.TheVariants as status
 use Rattle.files.specs.declared.incoming.Incoming.{Incoming}
-use Rattle.files.specs.declared.whole.Outcome.TheVariants as outcome
 use Rattle.writer.specs.Given.{Call, records_of}
 use Rattle.writer.specs.Outcome.{new_writer, Wrote}
 use Rattle.writer.specs.Calls.{AllWhole, Lent, WholeCalls, left}
@@ -122,13 +118,13 @@ InTable r = T (allowed (places_of r.number table) r.place)
 
 -- it accepts; or it refuses with a number of the table, its place and its line, and leaves what it might change as it was
 pub data Ends {A : Type 0} (before after : A) (OnLine : ℕ → Type 0) : Answer → Type 0 where
-  accepted : Ends before after OnLine Accepted
-  refused : {r : Refusal} → InTable r → OnLine r.line.0 → after ≡ before → Ends before after OnLine (Refused r)
+  accepted : Ends before after OnLine (Ok tt)
+  refused : {r : Refusal} → InTable r → OnLine r.line.0 → after ≡ before → Ends before after OnLine (Err r)
 
--- the same of an end, which gives totals
-pub data Concludes (OnLine : ℕ → Type 0) : Outcome → Type 0 where
-  accepted : {t : Totals} → Concludes OnLine (outcome.Accepted t)
-  refused : {r : Refusal} → InTable r → OnLine r.line.0 → Concludes OnLine (outcome.Refused r)
+-- the same of what gives something, as an end gives totals
+pub data Concludes {A : Type 0} (OnLine : ℕ → Type 0) : Result A Refusal → Type 0 where
+  accepted : {a : A} → Concludes OnLine (Ok a)
+  refused : {r : Refusal} → InTable r → OnLine r.line.0 → Concludes OnLine (Err r)
 
 -- ---- every call
 
@@ -189,10 +185,10 @@ pub record WriterCalls (w : Writer) : Type 0 where
   pub call : {c : Call} {out after : List ℕ} {x : Written} → AllWhole (records_of c) → Wrote w c out after x
       → Ends {A = Writer × List ℕ} (w, out) (x.state, after) (OneOfNext (length (records_of c)) w.checker) x.answer
 
--- calls with one record: a check, a read, which gives no fields where it refuses, and a write, which might change the output
+-- calls with one record: a check, a read, which gives fields where it accepts, and a write, which might change the output
 pub record RecordCalls (r : Record) (d : Direction) : Type 0 where
   pub check : (rec : List ℕ) → Ends nothing nothing OnNoLine (first_broken (record_rules r d rec))
-  pub read : (rec : List ℕ) → Ends (no_fields r) (read_record r d rec).fields OnNoLine (read_record r d rec).answer
+  pub read : (rec : List ℕ) → Concludes OnNoLine (read_record r d rec)
   pub write : (v : Fields) {out after : List ℕ} {a : Answer} → Writes (record_rules r d (record_of r v)) record_bytes (record_of r v) out a after
       → Ends out after OnNoLine a
 

@@ -1,10 +1,9 @@
 -- The demands, said of any checker, any checker in parts, any writer and any converters of digit strings, whatever they are made of. Assumes
 -- nothing.
-use Rattle.std.specs.Prelude.{◌≡◌, ◌≢◌, ◌↔◌, List, [], ◌∷◌, ◌++◌, cond, ℕ, ◌≤◌, length, take, drop}
+use Rattle.std.specs.Prelude.{◌≡◌, ◌≢◌, ◌↔◌, List, [], ◌∷◌, ◌++◌, cond, ℕ, ◌≤◌, length, take, drop, Err, Ok}
 use Rattle.answer.specs.Rules.{AllKept}
 use Rattle.answer.specs.declared.Refusal.{Refusal}
-use Rattle.answer.specs.declared.Answer.{Answer}
-use Rattle.answer.specs.declared.Answer.TheVariants as answer
+use Rattle.answer.specs.Rules.{Answer}
 use Rattle.digits.specs.Digits.{place}
 use Rattle.checker.specs.Machine.{start}
 use Rattle.files.specs.File.{lines_of, steps, out_of_turn, check_file}
@@ -13,8 +12,7 @@ use Rattle.files.specs.Calls.{PartsCall, part, end, bytes_of, end_declared}
 use Rattle.checker.specs.declared.Checker.{Checker}
 use Rattle.layout.specs.declared.shapes.Phase.TheVariants.{Ended}
 use Rattle.checker.specs.declared.totals.Totals.{Totals}
-use Rattle.files.specs.declared.whole.Outcome.{Outcome}
-use Rattle.files.specs.declared.whole.Outcome.TheVariants.{Accepted, Refused}
+use Rattle.files.specs.File.{Outcome}
 use Rattle.writer.specs.Given.{Call}
 use Rattle.writer.specs.Outcome.{new_writer, answer_of}
 use Rattle.writer.specs.Calls.{Lent, WholeCalls, state_behind, left, file_of, put_in, lent_on}
@@ -27,12 +25,12 @@ use Rattle.promises.specs.Guarded.{line_at, GuardedIn, changed}
 
 -- a file is accepted exactly if it meets the rules
 abbrev pub Demand2 : (List ℕ → Outcome) → Type 0
-Demand2 check = (file : List ℕ) (t : Totals) → check file ≡ Accepted t ↔ Meets file t
+Demand2 check = (file : List ℕ) (t : Totals) → check file ≡ Ok t ↔ Meets file t
 
 -- another byte at a guarded place of an accepted file is refused
 abbrev pub Demand3 : (List ℕ → Outcome) → Type 0
-Demand3 check = (file : List ℕ) (t : Totals) (n p b : ℕ) → check file ≡ Accepted t → GuardedIn file n p → b ≢ place p (line_at n file)
-    → (r : Refusal) × (check (changed file n p b) ≡ Refused r)
+Demand3 check = (file : List ℕ) (t : Totals) (n p b : ℕ) → check file ≡ Ok t → GuardedIn file n p → b ≢ place p (line_at n file)
+    → (r : Refusal) × (check (changed file n p b) ≡ Err r)
 
 -- ---- a checker in parts: states of any kind, a call with a part, and a call for the end
 
@@ -53,8 +51,8 @@ module _ (w : AnyIncoming) where
 
 -- what an end says behind an end: an acceptance is not given again
 abbrev pub said_again : Outcome → Outcome
-said_again (Accepted t) = Refused out_of_turn
-said_again (Refused r) = Refused r
+said_again (Ok t) = Err out_of_turn
+said_again (Err r) = Err r
 
 -- behind any calls, each answer is that of the bytes so far and of whether the end is declared, and the machine is that of the whole-file check
 pub record PartsDemand (w : AnyIncoming) : Type 0 where
@@ -103,7 +101,7 @@ pub record WritesRight (w : AnyWriter) (cs : List Call) (out : List ℕ) : Type 
   pub written : let file = file_of (lent_first cs out) in take (length file) (output_from w w.new cs out) ≡ file
   pub kept : let n = length (file_of (lent_first cs out)) in drop n (output_from w w.new cs out) ≡ drop n out
   pub accepted : (left new_writer (lent_first cs out)).checker.phase ≡ Ended → let n = length (file_of (lent_first cs out)) in
-      check_file (take n (output_from w w.new cs out)) ≡ Accepted (put_in new_writer (lent_first cs out))
+      check_file (take n (output_from w w.new cs out)) ≡ Ok (put_in new_writer (lent_first cs out))
 
 -- so behind every sequence of calls
 abbrev pub WriterDemand2 : AnyWriter → Type 0
@@ -115,7 +113,7 @@ WriterDemand2 w = (cs : List Call) (out : List ℕ) → WholeCalls (lent_first c
 pub record ConverterDemand2 (f : Family) (toLine toCode : List ℕ → List ℕ → Answer × List ℕ) : Type 0 where
   pub from_code : (code out other : List ℕ) → AllKept (f.code_rules code) → f.line_digits ≤ length out → f.code_digits ≤ length other
       → let there = toLine code out in let back = toCode (take f.line_digits there.1) other in
-      (there.0 ≡ answer.Accepted) × (take f.line_digits there.1 ≡ f.line_of code) × (back.0 ≡ answer.Accepted) × (take f.code_digits back.1 ≡ code)
+      (there.0 ≡ Ok tt) × (take f.line_digits there.1 ≡ f.line_of code) × (back.0 ≡ Ok tt) × (take f.code_digits back.1 ≡ code)
   pub from_line : (line out other : List ℕ) → AllKept (f.line_rules line) → f.code_digits ≤ length out → f.line_digits ≤ length other
       → let there = toCode line out in let back = toLine (take f.code_digits there.1) other in
-      (there.0 ≡ answer.Accepted) × (take f.code_digits there.1 ≡ f.code_of line) × (back.0 ≡ answer.Accepted) × (take f.line_digits back.1 ≡ line)
+      (there.0 ≡ Ok tt) × (take f.code_digits there.1 ≡ f.code_of line) × (back.0 ≡ Ok tt) × (take f.line_digits back.1 ≡ line)

@@ -1,10 +1,9 @@
 -- Which files are accepted, said of the whole file: its order, its bank and numbering, its counts, its sums and its limits. Assumes nothing.
-use Rattle.std.specs.Prelude.{◌≡◌, true, ℕ, ◌+◌, ◌≤◌, ◌<◌, length}
+use Rattle.std.specs.Prelude.{◌≡◌, true, ℕ, ◌+◌, ◌≤◌, ◌<◌, length, Some}
 use mathlib.Core.List.{List, [], ◌∷◌, ◌++◌, flatten}
 use Rattle.answer.specs.Limits.{file_cents}
 use Rattle.answer.specs.Rules.{AllKept}
 use Rattle.digits.specs.Numbers.{number_of}
-use Rattle.digits.specs.declared.spelling.Number.TheVariants.{Is}
 use Rattle.layout.specs.Pairs.{batch_of}
 use Rattle.layout.specs.Field.{Field, part}
 use Rattle.layout.specs.Table.{fields_of, record_bytes, bank_field, batch_field, number_field, service_field, form_field, batch_records, batch_sum, file_batches, file_records}
@@ -35,7 +34,7 @@ pub record RightLine (r : Record) (d : Direction) (l : List ℕ) : Type 0 where
 
 -- a field of a line reads the number k
 abbrev pub Reads : Field → ℕ → List ℕ → Type 0
-Reads f k l = number_of (part f (record_in l)) ≡ Is k
+Reads f k l = number_of (part f (record_in l)) ≡ Some k
 
 -- with the file's bank, and the number of its batch
 pub record Numbered (r : Record) (d : Direction) (bank batch : ℕ) (l : List ℕ) : Type 0 where

@@ -1,5 +1,5 @@
 -- The guarded places: another byte there, and an accepted file is refused. Assumes nothing.
-use Rattle.std.specs.Prelude.{◌≡◌, ℕ, suc, ◌+◌, ◌*◌, ◌-◌, ◌≤◌, ◌<◌, length, get_or, take, drop, set}
+use Rattle.std.specs.Prelude.{◌≡◌, ℕ, suc, ◌+◌, ◌*◌, ◌-◌, ◌≤◌, ◌<◌, length, get_or, take, drop, set, Some}
 use mathlib.Core.List.{List, Memᴰ}
 use Rattle.digits.specs.Digits.{digit_byte}
 use Rattle.boleto.specs.Guarded.{GuardedInBarcode}
@@ -16,7 +16,6 @@ use Rattle.checker.specs.Line.{line_bytes, record_in, line_is}
 use Rattle.checker.specs.Machine.{start, direction_of}
 use Rattle.files.specs.File.{lines_of}
 use Rattle.checker.specs.Calls.{left}
-use Rattle.checker.specs.declared.order.Reading.TheVariants.{Line}
 use Rattle.checker.specs.declared.Checker.{Checker}
 
 -- from place a to place b; in a field
@@ -77,7 +76,7 @@ state_at n file = left start (take n (lines_of file))
 
 -- it is read as this record there
 abbrev pub ReadAt : ℕ → List ℕ → Record → Type 0
-ReadAt n file r = line_is (state_at n file) (record_in (line_at n file)) ≡ Line r
+ReadAt n file r = line_is (state_at n file) (record_in (line_at n file)) ≡ Some r
 
 -- all lines of a file are read as these records, one each; the default is not met
 pub record EachRead (file : List ℕ) (rs : List Record) : Type 0 where

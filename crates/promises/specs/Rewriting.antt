@@ -1,12 +1,10 @@
 -- The reader's files and the writer's: a file's records given back as calls, and files that calls write and close. Assumes nothing.
-use Rattle.std.specs.Prelude.{◌≡◌, List, [], ◌∷◌, ◌++◌, ℕ, length, drop}
-use Rattle.answer.specs.declared.Answer.TheVariants.{Accepted}
+use Rattle.std.specs.Prelude.{◌≡◌, List, [], ◌∷◌, ◌++◌, ℕ, length, drop, None, Ok, Option, Some}
 use Rattle.fields.specs.Values.{fields_in}
 use Rattle.checker.specs.Line.{record_in, line_is}
 use Rattle.checker.specs.Machine.{start, step_of}
 use Rattle.files.specs.File.{lines_of}
-use Rattle.checker.specs.declared.order.Reading.{Reading}
-use Rattle.checker.specs.declared.order.Reading.TheVariants.{Line, Nothing}
+use Rattle.layout.specs.declared.Record.{Record}
 use Rattle.layout.specs.declared.shapes.Phase.TheVariants.{Ended}
 use Rattle.checker.specs.declared.totals.Totals.{Totals}
 use Rattle.checker.specs.declared.Checker.{Checker}
@@ -19,9 +17,9 @@ use Rattle.writer.specs.declared.Writer.{Writer}
 -- ---- a file's records, as they are read
 
 -- the record that a line is read as, with its fields
-abbrev pub record_read : Reading → List ℕ → List Fields
-record_read (Line r) rec = fields_in r rec ∷ []
-record_read Nothing rec = []
+abbrev pub record_read : Option Record → List ℕ → List Fields
+record_read (Some r) rec = fields_in r rec ∷ []
+record_read None rec = []
 
 -- the records of lines, each read in the state that the lines before it leave
 unfoldable pub records_read : Checker → List (List ℕ) → List Fields
@@ -38,7 +36,7 @@ records_given (c ∷ cs) = records_of c ++ records_given cs
 -- every call is accepted, each in the state that the calls before it leave
 pub data AllAccepted : Writer → List Lent → Type 0 where
   none_refused : {w : Writer} → AllAccepted w []
-  accepts : {w : Writer} {l : Lent} {ls : List Lent} → answer_of w l.call l.out ≡ Accepted → AllAccepted (state_behind w l) ls → AllAccepted w (l ∷ ls)
+  accepts : {w : Writer} {l : Lent} {ls : List Lent} → answer_of w l.call l.out ≡ Ok tt → AllAccepted (state_behind w l) ls → AllAccepted w (l ∷ ls)
 
 -- ---- a file written back
 

@@ -1,9 +1,8 @@
 -- Wrong checkers, checkers in parts, writers and converters that the paper names, by what they show. Assumes nothing.
-use Rattle.std.specs.Prelude.{◌≡◌, false, ℕ, ◌<◌, length}
+use Rattle.std.specs.Prelude.{◌≡◌, false, ℕ, ◌<◌, length, Err, Ok}
 use mathlib.Core.List.{List, [], ◌∷◌, ◌++◌, flatten}
 use Rattle.answer.specs.declared.Refusal.{Refusal}
-use Rattle.answer.specs.declared.Answer.{Answer}
-use Rattle.answer.specs.declared.Answer.TheVariants.{Accepted, Refused}
+use Rattle.answer.specs.Rules.{Answer}
 use Rattle.layout.specs.declared.Direction.{Direction}
 use Rattle.layout.specs.declared.Record.TheVariants.{FileHeader}
 use Rattle.checker.specs.Line.{line_bytes, header_batch}
@@ -13,7 +12,7 @@ use Rattle.checker.specs.Calls.{Through}
 use Rattle.checker.specs.declared.Checker.{Checker}
 use Rattle.checker.specs.declared.totals.Totals.{Totals}
 use Rattle.files.specs.Calls.{PartsCall, bytes_of, end_declared}
-use Rattle.files.specs.declared.whole.Outcome.{Outcome}
+use Rattle.files.specs.File.{Outcome}
 use Rattle.writer.specs.Given.{Call, pay}
 use Rattle.writer.specs.declared.given.Payment.{Payment}
 use Rattle.promises.specs.Grammar.{Numbered, RightBatch}
@@ -41,7 +40,7 @@ FirstBatchOnly check = (front later other last : List ℕ) → FirstBatch front 
 
 -- one that puts everything off to the end: every part before it is taken
 abbrev pub PutsOff : AnyIncoming → Type 0
-PutsOff w = (cs : List PartsCall) → end_declared cs ≡ false → (bytes : List ℕ) → (w.part (state_fed w w.new cs) bytes).1 ≡ Accepted
+PutsOff w = (cs : List PartsCall) → end_declared cs ≡ false → (bytes : List ℕ) → (w.part (state_fed w w.new cs) bytes).1 ≡ Ok tt
 
 -- one that looks into a line that is not finished: behind lines that are accepted, not the file trailer, it refuses less than a line
 pub record LooksInto (w : AnyIncoming) : Type 0 where
@@ -56,14 +55,14 @@ pub record LooksInto (w : AnyIncoming) : Type 0 where
   pub going : ended to.phase ≡ false
   pub less : length line < line_bytes
   pub refusal : Refusal
-  pub refused : (w.part (state_fed w w.new calls) bytes).1 ≡ Refused refusal
+  pub refused : (w.part (state_fed w w.new calls) bytes).1 ≡ Err refusal
 
 -- ---- writers
 
 -- all are refusals
 pub data AllRefused : List Answer → Type 0 where
   no_answer : AllRefused []
-  and_refused : {r : Refusal} {later : List Answer} → AllRefused later → AllRefused (Refused r ∷ later)
+  and_refused : {r : Refusal} {later : List Answer} → AllRefused later → AllRefused (Err r ∷ later)
 
 -- one that always refuses
 abbrev pub AlwaysRefuses : AnyWriter → Type 0
@@ -81,4 +80,4 @@ FirstPaymentOnly w = (cs : List Call) (p q : Payment) (out : List ℕ)
 -- ---- a digit converter that always refuses
 
 abbrev pub RefusesDigits : (List ℕ → List ℕ → Answer × List ℕ) → Type 0
-RefusesDigits convert = (digits out : List ℕ) → (r : Refusal) × ((convert digits out).0 ≡ Refused r)
+RefusesDigits convert = (digits out : List ℕ) → (r : Refusal) × ((convert digits out).0 ≡ Err r)

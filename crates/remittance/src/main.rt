@@ -6,6 +6,7 @@
 
 mod records;
 
+use answer::Refusal;
 use checker::LINE_BYTES;
 use fields::Fields;
 use layout::Record;
@@ -19,57 +20,34 @@ const LINES: usize = 13;
 
 const FILE_BYTES: usize = LINES * LINE_BYTES;
 
-fn is_refused(written: Written) -> bool {
-    let answer = written.answer;
-    !answer.is_accepted()
+// The state behind a call, or its refusal.
+fn state_behind(call: Written) -> Result<Writer, Refusal> {
+    call.answer.map(|()| call.state)
 }
 
 // A batch with one payment. The writer counts and sums, so nothing is left to say in its trailer.
-fn write_batch(state: Writer, header: Fields, payment: Payment, out: &mut [u8]) -> Written {
-    let opened = state.open_batch(header, out);
-    if is_refused(opened) {
-        return opened;
-    }
-    let state = opened.state;
-    let paid = state.payment(payment, out);
-    if is_refused(paid) {
-        return paid;
-    }
-    let state = paid.state;
-    state.close_batch(Fields::blank(Record::BatchTrailer), out)
+fn write_batch(
+    state: Writer,
+    header: Fields,
+    payment: Payment,
+    out: &mut [u8],
+) -> Result<Writer, Refusal> {
+    let state = state_behind(state.open_batch(header, out))?;
+    let state = state_behind(state.payment(payment, out))?;
+    state_behind(state.close_batch(Fields::blank(Record::BatchTrailer), out))
 }
 
 // Each call takes the state by value, and hands back the next state and an answer.
-fn write_file(out: &mut [u8]) -> Written {
-    let opened = Writer::start().open_file(records::file_header(), out);
-    if is_refused(opened) {
-        return opened;
-    }
-    let state = opened.state;
-    let credits = write_batch(state, records::credit_header(), records::credit(), out);
-    if is_refused(credits) {
-        return credits;
-    }
-    let state = credits.state;
-    let boletos = write_batch(state, records::boleto_header(), records::boleto(), out);
-    if is_refused(boletos) {
-        return boletos;
-    }
-    let state = boletos.state;
-    let bills = write_batch(state, records::bill_header(), records::bill(), out);
-    if is_refused(bills) {
-        return bills;
-    }
-    let state = bills.state;
-    state.close_file(Fields::blank(Record::FileTrailer), out)
+fn write_file(out: &mut [u8]) -> Result<Writer, Refusal> {
+    let state = state_behind(Writer::start().open_file(records::file_header(), out))?;
+    let state = write_batch(state, records::credit_header(), records::credit(), out)?;
+    let state = write_batch(state, records::boleto_header(), records::boleto(), out)?;
+    let state = write_batch(state, records::bill_header(), records::bill(), out)?;
+    state_behind(state.close_file(Fields::blank(Record::FileTrailer), out))
 }
 
 fn main(rt: HostRuntime) -> io::Result<()> {
     let mut file = [0u8; FILE_BYTES];
-    let answer = write_file(&mut file).answer;
-    if answer.is_accepted() {
-        Line::of_outcome(files::check_file(&file)).print(&rt)
-    } else {
-        Line::of_answer(answer).print(&rt)
-    }
+    let outcome = write_file(&mut file).and_then(|_| files::check_file(&file));
+    rt.println(Line::from(outcome))
 }

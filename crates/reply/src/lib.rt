@@ -1,95 +1,88 @@
-// The line that the programs print: `OK` or `NO`, and numbers. What it says is a value, with a
-// contract; that it is printed is output, of which no contract can speak.
+// The line that the programs print: `OK` or `NO`, and numbers. What it says and the bytes that it
+// has are promised; that they are printed is output, of which no contract can speak.
 #![tactic(auto)]
 
-ghost use Rattle.std.specs.Prelude.{◌≡◌};
+ghost use Rattle.std.specs.Prelude.{◌≡◌, Some};
+ghost use Rattle.std.specs.Fmt.{WritesOnOk};
 ghost use Rattle.checker.specs.Totals.{totals};
-ghost use Rattle.reply.specs.Lines.{refusal_line, answer_line, totals_line, outcome_line};
+ghost use Rattle.reply.specs.Lines.{refusal_line, answer_line, outcome_line, totals_text, line_text};
 
 use answer::{Answer, RecordCount, Refusal};
-use checker::{Live, Withdrawn};
+use checker::{Live, Totals, Withdrawn};
 use files::Outcome;
-use std::io;
+use std::fmt;
 
-// The most numbers that a line has: batches, records, live payments and their cents, withdrawn
-// payments and their cents.
-const MOST_NUMBERS: usize = 6;
-
-// Of the numbers the first `count` stand in the line.
+// What a line says.
 #[derive(Clone, Copy)]
-pub struct Line {
-    accepted: bool,
-    numbers: [u64; MOST_NUMBERS],
-    count: usize,
-}
-
-impl Line {
-    // `NO number line place`.
-    pub fn of_refusal(r: Refusal) -> Line
-        ensures { result ≡ refusal_line r }
-    {
-        Line {
-            accepted: false,
-            numbers: [r.number as u64, r.line.0, r.place as u64, 0, 0, 0],
-            count: 3,
-        }
-    }
-
-    // `OK`, or the refusal's line.
-    pub fn of_answer(answer: Answer) -> Line
-        ensures { result ≡ answer_line answer }
-    {
-        match answer {
-            Answer::Accepted => Line {
-                accepted: true,
-                numbers: [0; MOST_NUMBERS],
-                count: 0,
-            },
-            Answer::Refused(r) => Line::of_refusal(r),
-        }
-    }
-
+pub enum Line {
+    // `OK`.
+    Accepted,
     // `OK batches records payments cents payments cents`, the live ones before the withdrawn ones.
-    fn of_counts(batches: u64, records: RecordCount, live: Live, withdrawn: Withdrawn) -> Line
-        ensures { result ≡ totals_line (totals batches records.0 live withdrawn) }
-    {
-        Line {
-            accepted: true,
-            numbers: [
-                batches,
-                records.0,
-                live.payments(),
-                live.cents().0,
-                withdrawn.payments(),
-                withdrawn.cents().0,
-            ],
-            count: MOST_NUMBERS,
-        }
-    }
+    Counted(Totals),
+    // `NO number line place`.
+    Refused(Refusal),
+}
 
-    // The line of the totals, or of the refusal.
-    pub fn of_outcome(outcome: Outcome) -> Line
-        ensures { result ≡ outcome_line outcome }
-    {
-        match outcome {
-            Outcome::Accepted(t) => {
-                Line::of_counts(t.batches(), t.records(), t.live(), t.withdrawn())
-            }
-            Outcome::Refused(r) => Line::of_refusal(r),
-        }
-    }
+impl From<Refusal> for Line {
+    ghost from_gives = { λ r line. line ≡ refusal_line r };
 
-    // Prints it on standard output, with LF.
-    pub fn print(self, rt: &impl Print) -> io::Result<()> {
-        rt.print(if self.accepted { "OK" } else { "NO" })?;
-        for number in self.numbers.iter().take(self.count) {
-            spaced(rt, *number)?;
-        }
-        rt.print('\n')
+    fn from(r: Refusal) -> Line {
+        Line::Refused(r)
     }
 }
 
-// Prints a space and a number.
-pub fn spaced(rt: &impl Print, n: u64) -> io::Result<()> {
-    print!(rt; " {n}")
+impl From<Answer> for Line {
+    ghost from_gives = { λ answer line. line ≡ answer_line answer };
+
+    fn from(answer: Answer) -> Line {
+        match answer {
+            Ok(()) => Line::Accepted,
+            Err(r) => Line::from(r),
+        }
+    }
+}
+
+impl From<Outcome> for Line {
+    ghost from_gives = { λ outcome line. line ≡ outcome_line outcome };
+
+    fn from(outcome: Outcome) -> Line {
+        match outcome {
+            Ok(t) => Line::Counted(t),
+            Err(r) => Line::from(r),
+        }
+    }
+}
+
+// The bytes of the line, without LF.
+impl fmt::Display for Line {
+    ghost output = { λ line. Some (line_text line) };
+
+    fn fmt<W: fmt::Write>(&self, f: &mut fmt::Formatter<W>) -> fmt::Result {
+        match *self {
+            Line::Accepted => write!(f, "OK"),
+            Line::Counted(t) => write_counts(f, t.batches(), t.records(), t.live(), t.withdrawn()),
+            Line::Refused(r) => write!(f, "NO {} {} {}", r.number, r.line.0, r.place),
+        }
+    }
+}
+
+// The live payments come before the withdrawn ones, and each is a type of its own.
+fn write_counts<W: fmt::Write>(
+    f: &mut fmt::Formatter<W>,
+    batches: u64,
+    records: RecordCount,
+    live: Live,
+    withdrawn: Withdrawn,
+) -> fmt::Result
+    ensures { WritesOnOk W.write_str_gives f.old result (totals_text (totals batches records.0 live withdrawn)) f.new }
+{
+    write!(
+        f,
+        "OK {batches} {} {} {} {} {}",
+        records.0,
+        live.payments(),
+        live.cents().0,
+        withdrawn.payments(),
+        withdrawn.cents().0,
+    )
 }

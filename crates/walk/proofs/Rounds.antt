@@ -1,4 +1,5 @@
 -- The walk over a record's fields and their bytes, on plain lists: one byte more, the first that is wrong, and the end. Assumes nothing.
+use Rattle.std.specs.Prelude.{Err, Ok}
 use mathlib.Core.Path.{◌≡◌, refl, sym, ap, ◌∙◌, subst⁻¹}
 use mathlib.Core.Logic.{◌≢◌}
 use mathlib.Core.Bool.{Bool, true, false, not, ◌&&◌}
@@ -14,7 +15,6 @@ use lib.Seq.{slice, slice-cons, slice_empty}
 use Rattle.answer.specs.Rules.{Rule, rule, first_broken, refused_as, and_then}
 use Rattle.answer.proofs.laws.Order.{past, here, done, one_then, gone_on, stopped}
 use Rattle.answer.specs.declared.Refusal.{Refusal}
-use Rattle.answer.specs.declared.Answer.TheVariants.{Accepted, Refused}
 use Rattle.digits.specs.Digits.{is_digit, leading, all_digits, places}
 use Rattle.digits.proofs.laws.Strings.{leading_drop}
 use Rattle.layout.specs.inner.Lent.{kind_of, is_whole, field_count, byte_at, content_of}
@@ -83,7 +83,7 @@ module _ {c : Content} {part : List ℕ} {i : ℕ} (e : Compared c part i) where
 
 -- a field's only rule, kept and broken
 module _ {rules : List Rule} {number place : ℕ} {kept : Bool} (e : rules ≡ rule number place kept ∷ []) where
-  pub only_kept : kept ≡ true → first_broken rules ≡ Accepted
+  pub only_kept : kept ≡ true → first_broken rules ≡ Ok tt
   only_kept k = ap first_broken e ∙ sym (past _ _ _ _ _ k done)
 
   pub only_broken : kept ≡ false → refused_as number place ≡ first_broken rules
@@ -91,8 +91,8 @@ module _ {rules : List Rule} {number place : ℕ} {kept : Bool} (e : rules ≡ r
 
 -- the answer for the fields from f on, where field f is right, and where it is not
 pub record Here (rec : List ℕ) (d : Direction) (f past : ℕ) (rules : List Rule) : Type 0 where
-  pub good : first_broken rules ≡ Accepted → first_broken (rules_of (slice (f + 1) past all) d rec) ≡ first_broken (rules_of (slice f past all) d rec)
-  pub bad : {r : Refusal} → Refused r ≡ first_broken rules → Refused r ≡ first_broken (rules_of (slice f past all) d rec)
+  pub good : first_broken rules ≡ Ok tt → first_broken (rules_of (slice (f + 1) past all) d rec) ≡ first_broken (rules_of (slice f past all) d rec)
+  pub bad : {r : Refusal} → Err r ≡ first_broken rules → Err r ≡ first_broken (rules_of (slice f past all) d rec)
 
 module _ (rec : List ℕ) (d : Direction) (f past : ℕ) where
   module _ {from to k : ℕ} (h : f < past) (l : past ≤ field_count) (s : Stands f from to k) where
@@ -105,10 +105,10 @@ module _ (rec : List ℕ) (d : Direction) (f past : ℕ) where
 
   -- what the masks have tested
   pub skip_at : {masked : Bool} {first from to k : ℕ} → Known masked first past d rec → masked ≡ true → first ≤ f → f < past → Stands f from to k → is_whole k ≡ false
-      → first_broken ((means (kind_of k)).rules (a_part from (places from to rec) rec d)) ≡ Accepted
+      → first_broken ((means (kind_of k)).rules (a_part from (places from to rec) rec d)) ≡ Ok tt
   skip_at {k} known m l h s w = subst⁻¹ (Right d rec) s.is (known.each m f l h) (enough k w)
 
-  pub finished : f ≤ past → past ≤ f → Accepted ≡ first_broken (rules_of (slice f past all) d rec)
+  pub finished : f ≤ past → past ≤ f → (Ok tt) ≡ first_broken (rules_of (slice f past all) d rec)
   unfolding rules_of
   finished h l = rw (le_antisymm h l, slice_empty) done
 

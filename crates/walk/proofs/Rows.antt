@@ -1,4 +1,5 @@
 -- How the walk looks at a field, by the number of its kind. Assumes nothing.
+use Rattle.std.specs.Prelude.{Ok}
 use mathlib.Core.Path.{◌≡◌, refl, ap, ◌∙◌, subst, subst⁻¹}
 use mathlib.Core.Bool.{Bool, true, false, cond}
 use mathlib.Core.List.{List, [], ◌∷◌}
@@ -9,10 +10,13 @@ use lib.Dec.{T as Holds, ltb, eqb}
 use lib.ListN.{length, get_or}
 use Rattle.answer.specs.Rules.{rule, first_broken}
 use Rattle.answer.proofs.laws.Order.{past, done}
-use Rattle.answer.specs.declared.Answer.{Answer}
-use Rattle.answer.specs.declared.Answer.TheVariants.{Accepted}
+use Rattle.answer.specs.Rules.{Answer}
 use Rattle.digits.specs.Digits.{all_digits}
 use Rattle.layout.specs.inner.Lent.{n_or_blank, first_letter, is_mark, kind_of, content_of, may_be}
+use Rattle.layout.specs.Pairs.{known}
+use Rattle.layout.specs.declared.pairs.Batch.{Batch}
+use Rattle.layout.specs.declared.pairs.Batch.TheVariants.{Credit, Boleto, Collection}
+use Rattle.std.proofs.Math.Logic.{◌⊎◌, inl, inr}
 use Rattle.layout.specs.Field.{Kind, NOrBlank, T as Txt, RecordType, Segment}
 use Rattle.layout.specs.Kinds.{Part, means, wrong, is_fixed, same, blank}
 use Rattle.walk.specs.inner.Steps.{Looked, for_digits, for_content, tested, mark_look, text_look, number_or_blank_look}
@@ -51,7 +55,7 @@ for_mark k {p} q e m = rw (q, e) (go (ltb k first_letter) (rw e at m))
 pub for_blank : {k : ℕ} {p : Part} {x : Look} → k ≡ 6 → x ≡ text_look p.bytes → Looked (kind_of k) p x
 for_blank {k} {p} e q = at_key e (subst⁻¹ (λ (y : Look). Looked Txt p y) q (go (eqb (get_or p.bytes 0 0) blank) refl))
   where
-    go : (b : Bool) → eqb (get_or p.bytes 0 0) blank ≡ b → Looked Txt p (cond b (Fixed 13 (Run blank)) (Tested Accepted))
+    go : (b : Bool) → eqb (get_or p.bytes 0 0) blank ≡ b → Looked Txt p (cond b (Fixed 13 (Run blank)) (Tested (Ok tt)))
     go true q = for_content {number = 13} {c = Run blank} (rw (run_is blank (length p.bytes), q))
     go false q = tested (past _ _ _ _ _ (rw q) done)
 
@@ -62,6 +66,12 @@ for_number_or_blank {k} {p} e q = at_key e (subst⁻¹ (λ (y : Look). Looked NO
     go : (b : Bool) → eqb (get_or p.bytes 0 0) blank ≡ b → Looked NOrBlank p (cond b (Fixed 8 (Run blank)) Digits)
     go true q = for_content {number = 8} {c = Run blank} (rw (run_is blank (length p.bytes), blanks_asked p.bytes (eqb-true _ _ q)))
     go false q = for_digits (rw (digits_asked p.bytes q))
+
+-- service and form make a batch
+pub is_known : {b : Batch} → (b ≡ Credit) ⊎ ((b ≡ Boleto) ⊎ (b ≡ Collection)) → known b ≡ true
+is_known (inl e) = ap known e
+is_known (inr (inl e)) = ap known e
+is_known (inr (inr e)) = ap known e
 
 -- ---- what a look says, by its case
 

@@ -1,7 +1,8 @@
 // The byte check: each from 32 to 126.
-ghost use Rattle.std.specs.Prelude.{◌≡◌, ◌∷◌, []};
+ghost use Rattle.std.specs.Prelude.{◌≡◌, ◌∷◌, [], not};
+ghost use Rattle.std.specs.List.{position};
 ghost use Rattle.answer.specs.Rules.{first_broken};
-ghost use Rattle.layout.specs.Record.{byte_rule, all_printable};
+ghost use Rattle.layout.specs.Record.{printable, byte_rule, all_printable};
 
 use answer::{Answer, numbers};
 
@@ -9,18 +10,28 @@ const LOWEST: u8 = 32;
 
 const HIGHEST: u8 = 126;
 
+fn is_printable(b: u8) -> bool
+    ensures { result ≡ printable b }
+{
+    (LOWEST <= b) & (b <= HIGHEST)
+}
+
 // Yes or no, without an early exit: the compiler looks at many bytes at once.
 fn is_clean(rec: &[u8]) -> bool
     ensures { result ≡ all_printable rec.now }
 {
     let mut clean = true;
-    let mut i = 0;
-    while i < rec.len() {
-        let b = rec[i];
-        clean = clean & (LOWEST <= b) & (b <= HIGHEST);
-        i += 1;
+    for b in rec {
+        clean &= is_printable(*b);
     }
     clean
+}
+
+// The index of the first byte that is not printable.
+fn first_wrong(rec: &[u8]) -> Option<usize>
+    ensures { result ≡ position (λ b. not (printable b)) rec.now }
+{
+    rec.iter().position(|b| !is_printable(*b))
 }
 
 // Only bytes that are not all printable are walked for the first one that is not.
@@ -28,17 +39,10 @@ pub fn check_bytes(rec: &[u8]) -> Answer
     ensures { result ≡ first_broken (byte_rule rec.now ∷ []) }
 {
     if is_clean(rec) {
-        return Answer::Accepted;
+        return Ok(());
     }
-    let mut i = 0;
-    'bytes: loop {
-        if i >= rec.len() {
-            break 'bytes Answer::Accepted;
-        }
-        let b = rec[i];
-        if !((LOWEST <= b) & (b <= HIGHEST)) {
-            break 'bytes Answer::refused(numbers::NOT_PRINTABLE, i + 1);
-        }
-        i += 1;
+    match first_wrong(rec) {
+        Some(i) => answer::refused(numbers::NOT_PRINTABLE, i + 1),
+        None => Ok(()),
     }
 }

@@ -13,7 +13,7 @@ ghost use Rattle.walk.specs.Parts.{in_parts};
 
 use answer::{Answer, numbers};
 pub use bytes::check_bytes;
-use layout::{Direction, FIELDS, FROM, KIND, RECORD_BYTES, Record, TO};
+use layout::{Direction, FIELDS, RECORD_BYTES, Record};
 use masks::hold;
 
 // The answers of a record's fields in three parts, cut at two indexes.
@@ -24,22 +24,18 @@ pub struct Parts {
     pub rest: Answer,
 }
 
-// One record alone: its length, its bytes, its type and segment, then all its fields. The table is
-// bound here, once a record, and lent down.
+// One record alone: its length, its bytes, its type and segment, then all its fields.
 pub fn check_record(rec: &[u8], which: Record, dir: Direction) -> Answer
     ensures { result ≡ first_broken (record_rules which dir rec.now) }
 {
-    if rec.len() != RECORD_BYTES {
-        return Answer::refused(numbers::WRONG_LENGTH, 0);
-    }
-    let from = FROM;
-    let to = TO;
-    let kind = KIND;
+    let Some(rec) = rec.as_array::<RECORD_BYTES>() else {
+        return answer::refused(numbers::WRONG_LENGTH, 0);
+    };
     let masked = hold(rec, which, dir);
     let clean = check_bytes(rec);
-    let marks = walk::check_marks(&from, &to, &kind, rec, which, dir);
-    let fields = walk::check_fields(&from, &to, &kind, rec, which, dir, 0, FIELDS, masked);
-    clean.and_then(marks.and_then(fields))
+    let marks = walk::check_marks(rec, which, dir);
+    let fields = walk::check_fields(rec, which, dir, 0, FIELDS, masked);
+    clean.and(marks.and(fields))
 }
 
 // Some fields of a record: those from the index `first` up to `past`. Whoever has looked at the
@@ -47,19 +43,16 @@ pub fn check_record(rec: &[u8], which: Record, dir: Direction) -> Answer
 pub fn check_fields(rec: &[u8], which: Record, dir: Direction, first: usize, past: usize) -> Answer
     ensures { result ≡ first_broken (some_rules which dir first past rec.now) }
 {
-    if rec.len() != RECORD_BYTES {
-        return Answer::refused(numbers::WRONG_LENGTH, 0);
-    }
-    let from = FROM;
-    let to = TO;
-    let kind = KIND;
+    let Some(rec) = rec.as_array::<RECORD_BYTES>() else {
+        return answer::refused(numbers::WRONG_LENGTH, 0);
+    };
     let masked = hold(rec, which, dir);
-    walk::check_fields(&from, &to, &kind, rec, which, dir, first, past, masked)
+    walk::check_fields(rec, which, dir, first, past, masked)
 }
 
 // Some fields of a record in three parts, for whoever asks something else between them: from the
-// index `first` up to `second`, up to `third`, and from there on. The table is bound and the masks are
-// tested once for all three.
+// index `first` up to `second`, up to `third`, and from there on. The masks are tested once for all
+// three.
 pub fn check_parts(
     rec: &[u8],
     which: Record,
@@ -70,21 +63,18 @@ pub fn check_parts(
 ) -> Parts
     ensures { result ≡ in_parts which dir first second third rec.now }
 {
-    if rec.len() != RECORD_BYTES {
-        let refused = Answer::refused(numbers::WRONG_LENGTH, 0);
+    let Some(rec) = rec.as_array::<RECORD_BYTES>() else {
+        let refused = answer::refused(numbers::WRONG_LENGTH, 0);
         return Parts {
             front: refused,
             middle: refused,
             rest: refused,
         };
-    }
-    let from = FROM;
-    let to = TO;
-    let kind = KIND;
+    };
     let masked = hold(rec, which, dir);
-    let front = walk::check_fields(&from, &to, &kind, rec, which, dir, first, second, masked);
-    let middle = walk::check_fields(&from, &to, &kind, rec, which, dir, second, third, masked);
-    let rest = walk::check_fields(&from, &to, &kind, rec, which, dir, third, FIELDS, masked);
+    let front = walk::check_fields(rec, which, dir, first, second, masked);
+    let middle = walk::check_fields(rec, which, dir, second, third, masked);
+    let rest = walk::check_fields(rec, which, dir, third, FIELDS, masked);
     Parts {
         front,
         middle,

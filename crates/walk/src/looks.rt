@@ -1,5 +1,7 @@
 // How the walk looks at a field: the rule of each kind.
 ghost use Rattle.std.specs.Prelude.{◌≡◌, [], ◌≤◌, T as Holds, eqb, length, get_or};
+ghost use Rattle.std.specs.Bool.{◌==◌};
+ghost use Rattle.std.specs.List.{list_any};
 ghost use Rattle.answer.specs.Rules.{first_broken};
 ghost use Rattle.layout.specs.inner.Lent.{kind_of, may_be};
 ghost use Rattle.layout.specs.Table.{record_bytes};
@@ -9,7 +11,7 @@ ghost use Rattle.layout.specs.declared.Direction.TheVariants.{Remittance};
 ghost use Rattle.walk.specs.declared.looks.Look.TheVariants.{Fixed};
 
 use answer::{Answer, numbers};
-use layout::{BLANK, Batch, Content, Direction, ZERO, kinds, places};
+use layout::{BLANK, Batch, Content, Direction, RECORD_BYTES, ZERO, kinds, places};
 
 // For digits, for fixed content, or not at all, because the field has been tested whole.
 #[derive(Clone, Copy)]
@@ -19,21 +21,19 @@ pub(crate) enum Look {
     Tested(Answer),
 }
 
+fn is_among(b: u8, domain: &[u8]) -> bool
+    ensures { result ≡ list_any (λ d. b == d) domain.now }
+{
+    domain.iter().any(|d| b == *d)
+}
+
 fn one_of(domain: &[u8], part: &[u8]) -> bool
     ensures { result ≡ one_of domain.now part.now }
 {
-    if part.len() != 1 {
-        return false;
+    match part {
+        [b] => is_among(*b, domain),
+        _ => false,
     }
-    let b = part[0];
-    let mut i = 0;
-    while i < domain.len() {
-        if b == domain[i] {
-            return true;
-        }
-        i += 1;
-    }
-    false
 }
 
 // The digits of a barcode, then its currency.
@@ -41,9 +41,9 @@ fn barcode(part: &[u8], place: usize) -> Answer
     requires { place ≤ record_bytes }
     ensures { result ≡ first_broken (barcode_rules (a_part place part.now [] Remittance)) }
 {
-    let digits = Answer::test(numbers::NON_DIGIT, place, digits::all_digits(part));
+    let digits = answer::test(numbers::NON_DIGIT, place, digits::all_digits(part));
     let currency = boleto::currency_fits(part);
-    digits.and_then(Answer::test(
+    digits.and(answer::test(
         numbers::DOMAIN,
         place + (boleto::CURRENCY_PLACE - 1),
         currency,
@@ -51,12 +51,12 @@ fn barcode(part: &[u8], place: usize) -> Answer
 }
 
 // The characters of a registration number, by the type that stands before it in the record.
-fn id(part: &[u8], rec: &[u8], place: usize) -> Answer
+fn id(part: &[u8], rec: &[u8; RECORD_BYTES], place: usize) -> Answer
     requires { place ≤ record_bytes }
     ensures { result ≡ first_broken (id_characters (a_part place part.now rec.now Remittance)) }
 {
     let registration = layout::registration_at(rec, place);
-    Answer::test(
+    answer::test(
         numbers::NON_DIGIT,
         place,
         ids::characters_fit(registration, part),
@@ -64,17 +64,14 @@ fn id(part: &[u8], rec: &[u8], place: usize) -> Answer
 }
 
 // Service and form, which stand in the record.
-fn pair(rec: &[u8], dir: Direction) -> Answer
-    requires { length rec.now ≡ record_bytes }
+fn pair(rec: &[u8; RECORD_BYTES], dir: Direction) -> Answer
     ensures { result ≡ first_broken (pair_rule (a_part 0 [] rec.now dir)) }
 {
     let service = &rec[places::SERVICE_FROM - 1..places::SERVICE_TO];
     let form = &rec[places::SERVICE_TO..places::FORM_TO];
     match layout::batch_of(dir, service, form) {
-        Batch::Credit => Answer::Accepted,
-        Batch::Boleto => Answer::Accepted,
-        Batch::Unknown => Answer::refused(numbers::DOMAIN, places::SERVICE_FROM),
-        Batch::Collection => Answer::Accepted,
+        Batch::Credit | Batch::Boleto | Batch::Collection => Ok(()),
+        Batch::Unknown => answer::refused(numbers::DOMAIN, places::SERVICE_FROM),
     }
 }
 
@@ -82,27 +79,21 @@ fn pair(rec: &[u8], dir: Direction) -> Answer
 fn mark(k: u8) -> Look
     ensures { result ≡ mark_look k }
 {
-    let content = Content::Run(k);
-    if k < b'A' {
-        Look::Fixed {
-            number: numbers::TYPE,
-            content,
-        }
+    let number = if k < b'A' {
+        numbers::TYPE
     } else {
-        Look::Fixed {
-            number: numbers::SEGMENT,
-            content,
-        }
+        numbers::SEGMENT
+    };
+    Look::Fixed {
+        number,
+        content: Content::Run(k),
     }
 }
 
 fn begins_blank(part: &[u8]) -> bool
     ensures { result ≡ eqb (get_or part.now 0 0) blank }
 {
-    if part.len() == 0 {
-        return false;
-    }
-    part[0] == BLANK
+    matches!(part, [BLANK, ..])
 }
 
 // Text has to be looked at only where its first byte is blank.
@@ -110,12 +101,13 @@ fn text(part: &[u8]) -> Look
     ensures { result ≡ text_look part.now }
 {
     if begins_blank(part) {
-        return Look::Fixed {
+        Look::Fixed {
             number: numbers::TEXT,
             content: Content::Run(BLANK),
-        };
+        }
+    } else {
+        Look::Tested(Ok(()))
     }
-    Look::Tested(Answer::Accepted)
 }
 
 // A number that may be not given: its first byte says whether blanks or digits have to follow.
@@ -123,12 +115,13 @@ fn number_or_blank(part: &[u8]) -> Look
     ensures { result ≡ number_or_blank_look part.now }
 {
     if begins_blank(part) {
-        return Look::Fixed {
+        Look::Fixed {
             number: numbers::NON_DIGIT,
             content: Content::Run(BLANK),
-        };
+        }
+    } else {
+        Look::Digits
     }
-    Look::Digits
 }
 
 fn fixed(content: Content) -> Look
@@ -141,9 +134,15 @@ fn fixed(content: Content) -> Look
 }
 
 // The rule of each kind, for a field from this place on.
-pub(crate) fn look_at(k: u8, dir: Direction, part: &[u8], rec: &[u8], place: usize) -> Look
+pub(crate) fn look_at(
+    k: u8,
+    dir: Direction,
+    part: &[u8],
+    rec: &[u8; RECORD_BYTES],
+    place: usize,
+) -> Look
     requires holds { Holds (may_be (kind_of k) (length part.now)) }
-    requires rec_len { (length rec.now ≡ record_bytes) × (place ≤ record_bytes) }
+    requires in_record { place ≤ record_bytes }
     ensures { Looked (kind_of k) (a_part place part.now rec.now dir) result }
 {
     if (b'0' <= k) & (k <= b'Z') {
@@ -153,30 +152,30 @@ pub(crate) fn look_at(k: u8, dir: Direction, part: &[u8], rec: &[u8], place: usi
         kinds::N => Look::Digits,
         kinds::ID => Look::Tested(id(part, rec, place)),
         kinds::T => text(part),
-        kinds::D => Look::Tested(Answer::test(numbers::DATE, place, calendar::date_fits(part))),
-        kinds::TIME => Look::Tested(Answer::test(numbers::DATE, place, calendar::time_fits(part))),
+        kinds::D => Look::Tested(answer::test(numbers::DATE, place, calendar::date_fits(part))),
+        kinds::TIME => Look::Tested(answer::test(numbers::DATE, place, calendar::time_fits(part))),
         kinds::K => fixed(Content::Run(BLANK)),
         kinds::O => match dir {
             Direction::Remittance => fixed(Content::Run(BLANK)),
-            Direction::Return => Look::Tested(Answer::Accepted),
+            Direction::Return => Look::Tested(Ok(())),
         },
         kinds::ZEROS => fixed(Content::Run(ZERO)),
         kinds::EXACT_C => fixed(Content::LetterC),
         kinds::EXACT_09 => fixed(Content::Code09),
         kinds::EXACT_52 => fixed(Content::Code52),
-        kinds::ZERO_ONE_TWO => Look::Tested(Answer::test(
+        kinds::ZERO_ONE_TWO => Look::Tested(answer::test(
             numbers::DOMAIN,
             place,
             one_of(b"012", part),
         )),
-        kinds::ZERO_NINE => Look::Tested(Answer::test(numbers::DOMAIN, place, one_of(b"09", part))),
-        kinds::ONE_TWO => Look::Tested(Answer::test(numbers::DOMAIN, place, one_of(b"12", part))),
+        kinds::ZERO_NINE => Look::Tested(answer::test(numbers::DOMAIN, place, one_of(b"09", part))),
+        kinds::ONE_TWO => Look::Tested(answer::test(numbers::DOMAIN, place, one_of(b"12", part))),
         kinds::SERVICE => Look::Tested(pair(rec, dir)),
         // The pair has been asked at the service.
-        kinds::FORM => Look::Tested(Answer::Accepted),
+        kinds::FORM => Look::Tested(Ok(())),
         kinds::BARCODE => Look::Tested(barcode(part, place)),
         kinds::N_OR_BLANK => number_or_blank(part),
         kinds::CODE => Look::Digits,
-        _ => Look::Tested(Answer::Accepted),
+        _ => Look::Tested(Ok(())),
     }
 }

@@ -2,8 +2,8 @@
 // between them, every field is right whose rule is one for each byte alone, and so is a number that
 // may be not given or a registration number, whose mask is that of digits: a record with blanks or
 // letters for it is looked at field by field.
-ghost use Rattle.std.specs.Prelude.{◌≡◌, length};
-ghost use Rattle.layout.specs.Table.{record_bytes, fields_of};
+ghost use Rattle.std.specs.Prelude.{◌≡◌};
+ghost use Rattle.layout.specs.Table.{fields_of};
 ghost use Rattle.walk.specs.inner.Masks.{within, lows_of, highs_of};
 
 use layout::{Direction, RECORD_BYTES, Record};
@@ -84,23 +84,18 @@ const O_HIGH_RETURN: [u8; RECORD_BYTES] =
     *b"9999999399999O~9999999999999999999999999999999999999999999999~~~~~~~~~~~~~~~~~~~~~~~~~~~~~~~~~~~~~~~~~~~~~~999999999999999~~~~~~~~~~~~~~~~~~~~~~~~~~~~~~~~~~~~~~~~                                                                    ~~~~~~~~~~";
 
 // Yes or no, without an early exit: the compiler looks at many bytes at once.
-fn fits(low: &[u8; RECORD_BYTES], high: &[u8; RECORD_BYTES], rec: &[u8]) -> bool
-    requires { length rec.now ≡ record_bytes }
+fn fits(low: &[u8; RECORD_BYTES], high: &[u8; RECORD_BYTES], rec: &[u8; RECORD_BYTES]) -> bool
     ensures { result ≡ within low.now high.now rec.now }
 {
     let mut fits = true;
-    let mut i = 0;
-    while i < RECORD_BYTES {
-        let b = rec[i];
-        fits = fits & (low[i] <= b) & (b <= high[i]);
-        i += 1;
+    for (i, b) in rec.iter().enumerate() {
+        fits = fits & (low[i] <= *b) & (*b <= high[i]);
     }
     fits
 }
 
 // Whether a record lies between its masks. What is blank in a remittance may be any byte in a return.
-pub(crate) fn hold(rec: &[u8], which: Record, dir: Direction) -> bool
-    requires { length rec.now ≡ record_bytes }
+pub(crate) fn hold(rec: &[u8; RECORD_BYTES], which: Record, dir: Direction) -> bool
     ensures { result ≡ within (lows_of (fields_of which)) (highs_of dir (fields_of which)) rec.now }
 {
     match which {

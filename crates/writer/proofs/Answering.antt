@@ -1,5 +1,8 @@
 -- A call's answer, state and output, on plain values. Assumes nothing.
-use mathlib.Core.Path.{◌≡◌, sym, ap, ◌∙◌}
+use Rattle.std.specs.Prelude.{Result, IsErr, IsErrAnd, Err, Ok}
+use Rattle.std.proofs.Common.{subst}
+use Rattle.answer.proofs.laws.Leaving.{left_with}
+use mathlib.Core.Path.{◌≡◌, refl, sym, ap, ◌∙◌}
 use mathlib.Core.Bool.{Bool, true, cond}
 use mathlib.Core.List.{List, [], ◌∷◌, ◌++◌, append-nil}
 use Prim.Native.Nat.{ℕ, ◌≤◌}
@@ -9,9 +12,8 @@ use Rattle.answer.specs.Rules.{no_line, Rule, rules_on_line, first_broken, AllKe
 use Rattle.answer.specs.Output.{room}
 use Rattle.answer.specs.declared.LineNo.{LineNo}
 use Rattle.answer.specs.declared.Refusal.{Refusal}
-use Rattle.answer.specs.declared.Answer.{Answer}
-use Rattle.answer.specs.declared.Answer.TheVariants.{Accepted, Refused}
-use Rattle.answer.proofs.laws.Order.{accepted_kept, kept_behind, first_append, first_on_line, joined, one_then}
+use Rattle.answer.specs.Rules.{Answer}
+use Rattle.answer.proofs.laws.Order.{accepted_kept, kept_behind, first_append, first_on_line, gone_on, one_then}
 use Rattle.layout.specs.Records.{is_one_of}
 use Rattle.layout.specs.declared.Record.{Record}
 use Rattle.fields.specs.declared.Fields.{Fields}
@@ -21,37 +23,43 @@ use Rattle.writer.specs.Given.{Call, records_of}
 use Rattle.writer.specs.Refusals.{turn_rule, held, turn_limits, turn_rules, expected_in, expected_now, given_on_line, all_given, last_rules, call_rules}
 use Rattle.writer.specs.Outcome.{writer, behind_all, cursor_behind, output_after, answer_of, Wrote}
 use Rattle.writer.proofs.laws.Accepted.{off_line}
-use Rattle.writer.specs.inner.Steps.{turn_of, WroteIn}
+use Rattle.writer.specs.inner.Steps.{turn_of, handed_back, WroteIn}
 use Rattle.writer.specs.declared.Writer.{Writer}
 use Rattle.writer.specs.declared.Written.{Written}
 
 module _ {turn : Answer} {rules : List Rule} (w : Writer) (gs : List Fields) (out : List ℕ) where
-  -- the call is out of turn
-  pub turned_away : {r : Refusal} → turn ≡ Refused r → WroteIn turn rules w gs out out (record { state = w; answer = turn })
-  turned_away e = record { answered = rw e; moved = rw e; memory = rw e }
+  stays : {e : Refusal} (r : Result Writer Refusal) → IsErr r × IsErrAnd r (λ y. y ≡ e) → Err e ≡ and_then turn (first_broken rules)
+      → WroteIn turn rules w gs out out (handed_back w r)
+  stays {e} r left is =
+      subst (λ (r : Result Writer Refusal). WroteIn turn rules w gs out out (handed_back w r)) (sym (left_with left)) (record { answered = is; moved = refl; memory = refl })
 
-  module _ {a : Answer} (t : turn ≡ Accepted) (is : a ≡ first_broken rules) where
+  -- the call is out of turn
+  pub turned_away : {e : Refusal} (r : Result Writer Refusal) → turn ≡ Err e → IsErr r × IsErrAnd r (λ y. y ≡ e) → WroteIn turn rules w gs out out (handed_back w r)
+  turned_away r t left = stays r left (rw t)
+
+  module _ (t : turn ≡ Ok tt) where
     -- a rule is broken
-    pub refuses : {r : Refusal} → a ≡ Refused r → WroteIn turn rules w gs out out (record { state = w; answer = a })
-    refuses e = record { answered = rw t is; moved = rw e; memory = rw e }
+    pub refuses : {e : Refusal} (r : Result Writer Refusal) → Err e ≡ first_broken rules → IsErr r × IsErrAnd r (λ y. y ≡ e)
+        → WroteIn turn rules w gs out out (handed_back w r)
+    refuses r is left = stays r left (rw t is)
 
     -- all are kept
-    pub accepts : {m : Checker} {at : ℕ} {after : List ℕ} → a ≡ Accepted → m ≡ behind_all w.checker gs → at ≡ cursor_behind w gs
-        → after ≡ output_after Accepted w gs out → WroteIn turn rules w gs out after (record { state = writer m at; answer = a })
-    accepts e p q o = record { answered = rw t is; moved = rw (e, p, q); memory = rw e o }
+    pub accepts : {m : Checker} {at : ℕ} {after : List ℕ} → Ok tt ≡ first_broken rules → m ≡ behind_all w.checker gs → at ≡ cursor_behind w gs
+        → after ≡ output_after (Ok tt) w gs out → WroteIn turn rules w gs out after (handed_back w (Ok (writer m at)))
+    accepts is p q o = record { answered = rw t is; moved = rw (p, q); memory = o }
 
 -- the last rule of an accepted call is kept
-pub has_room : (xs rs : List Rule) (line : LineNo) (n : ℕ) (out : List ℕ) → first_broken (xs ++ (rules_on_line line rs ++ rules_on_line line (room n out ∷ []))) ≡ Accepted → n ≤ length out
+pub has_room : (xs rs : List Rule) (line : LineNo) (n : ℕ) (out : List ℕ) → first_broken (xs ++ (rules_on_line line rs ++ rules_on_line line (room n out ∷ []))) ≡ Ok tt → n ≤ length out
 unfolding AllKept
 has_room xs rs line n out e =
     let all = kept_behind xs (rules_on_line line rs ++ rules_on_line line (room n out ∷ [])) (accepted_kept _ e) in
     leb-true n (length out) (kept_behind (rules_on_line line rs) (rules_on_line line (room n out ∷ [])) all).0
 
--- behind the turn: the answer by the records' rules, and then by the last ones, on the line that is next
-pub behind_turn : (m : Checker) (xs last : List Rule) {both tried late lined : Answer} {line : LineNo} → sound m ≡ true → both ≡ and_then tried lined
-    → tried ≡ first_broken xs → lined ≡ on_line line late → line ≡ cond (sound m) (line_of m) no_line → late ≡ first_broken last
-    → both ≡ first_broken (xs ++ rules_on_line (line_of m) last)
-behind_turn m xs last ok b t l n e = joined b xs (rules_on_line (line_of m) last) t (l ∙ rw (n, ok, e) (sym (first_on_line (line_of m) last)))
+-- behind records that are accepted: the answer by the last rules, on the line that is next
+pub behind_records : (m : Checker) (xs last : List Rule) {late lined : Answer} {line : LineNo} → sound m ≡ true → Ok tt ≡ first_broken xs
+    → lined ≡ on_line line late → line ≡ cond (sound m) (line_of m) no_line → late ≡ first_broken last
+    → lined ≡ first_broken (xs ++ rules_on_line (line_of m) last)
+behind_records m xs last ok t l n e = l ∙ rw (n, ok, e) (sym (first_on_line (line_of m) last)) ∙ gone_on xs (rules_on_line (line_of m) last) (sym t)
 
 -- ---- the turn
 
@@ -61,7 +69,7 @@ unfolding first_broken
 turn_is s may {limits} ls e = ap (λ (a : Answer). cond (held s) a (refused_as 51 0)) (ap (on_line (line_of s)) (one_then (turn_rule may) ls limits e) ∙ sym (first_on_line (line_of s) (turn_rule may ∷ ls)))
 
 -- a call in turn has a state that is held, within the limits
-pub turned : {turn : Answer} (c : Call) (s : Checker) → turn ≡ first_broken (turn_rules c s) → turn ≡ Accepted → (held s ≡ true) × AllKept (turn_limits c s)
+pub turned : {turn : Answer} (c : Call) (s : Checker) → turn ≡ first_broken (turn_rules c s) → turn ≡ Ok tt → (held s ≡ true) × AllKept (turn_limits c s)
 unfolding AllKept
 turned c s e t = let all = accepted_kept (turn_rules c s) (sym e ∙ t) in (all.0, off_line (line_of s) (turn_limits c s) all.1)
 

@@ -1,5 +1,8 @@
 -- Records that are tried, one behind the other. Assumes nothing.
+use Rattle.std.specs.Prelude.{Result, IsErr, IsErrAnd, Err, Ok}
 use mathlib.Core.Path.{◌≡◌, refl, sym, ap, ◌∙◌}
+use Rattle.std.proofs.Common.{subst}
+use Rattle.answer.proofs.laws.Leaving.{left_with}
 use mathlib.Core.Bool.{Bool, true, false, cond}
 use mathlib.Core.List.{List, [], ◌∷◌, ◌++◌, append-nil, append_assoc}
 use Prim.Native.Nat.{ℕ, zero, suc, ◌+◌, ◌≤◌, ◌<◌}
@@ -11,8 +14,7 @@ use lib.Seq.{take-suc-set}
 use Rattle.answer.specs.Rules.{Rule, rule, AllKept, first_broken, on_line, no_line, refused_as}
 use Rattle.answer.specs.declared.LineNo.{LineNo}
 use Rattle.answer.specs.declared.Refusal.{Refusal}
-use Rattle.answer.specs.declared.Answer.{Answer}
-use Rattle.answer.specs.declared.Answer.TheVariants.{Accepted, Refused}
+use Rattle.answer.specs.Rules.{Answer}
 use Rattle.answer.proofs.laws.Order.{never_refused, past, done, first_on_line, one_then, here, gone_on, stopped, accepted_kept, kept_accepted}
 use Rattle.layout.specs.Records.{is_one_of}
 use Rattle.layout.specs.Table.{segment_place, fields_of, record_bytes}
@@ -45,6 +47,7 @@ use Rattle.writer.proofs.laws.TakesLine.{steps_by_house, takes}
 use Rattle.writer.specs.inner.Steps.{kind_answer, MayTry, Tries, line_with, lines_with, AllRight, none_made, one_more, nth_in, expected_at, TriesPayment, MayPay}
 use Rattle.writer.specs.declared.given.Payment.{Payment}
 use Rattle.writer.specs.declared.records.Tried.{Tried}
+use Rattle.writer.specs.declared.payments.TriedPayment.{TriedPayment}
 
 -- ---- one record
 
@@ -60,9 +63,19 @@ kind_is false r d v full =
     let fields = rules_of (fields_of r) d (record_of r v) in
     one_then (byte_rule (record_of r v)) (rule 11 segment_place false ∷ fields) (refused_as 11 segment_place) (here 11 segment_place false fields refl)
 
-made_bytes : (r : Record) (d : Direction) (v : Fields) → (made_of r d v).answer ≡ Accepted → (made_of r d v).bytes ≡ record_of r v
+made_bytes : (r : Record) (d : Direction) (v : Fields) → (made_of r d v).answer ≡ Ok tt → (made_of r d v).bytes ≡ record_of r v
 unfolding made_of
 made_bytes r d v e = rw e
+
+-- a refusal on a line is one without it
+refused_on_line : (line : LineNo) (a : Answer) {y : Refusal} → on_line line a ≡ Err y → (x : Refusal) × (a ≡ Err x)
+refused_on_line line (Ok tt) e = never_refused e
+refused_on_line line (Err x) e = (x, refl)
+
+-- a record that is refused makes nothing
+tries_not : (expected : Bool) (s : Checker) (g : Fields) {y : Refusal} {r : Result Tried Refusal} → IsErr r × IsErrAnd r (λ z. z ≡ y)
+    → Err y ≡ first_broken (given_on_line expected s g) → Tries expected s g r
+tries_not expected s g {y} out e = subst (Tries expected s g) (sym (left_with out)) (record { answered = e; makes = tt })
 
 -- what is made of fields that are filled, and what its check answers
 pub made_filled : (s : Checker) (g : Fields) {f : Fields} {d : Direction} {m : Made} → f ≡ filled g.which s g → d ≡ s.dir → m ≡ made_of f.which d f
@@ -92,18 +105,14 @@ module _ (expected : Bool) (s : Checker) (g : Fields) (whole : Whole g) {m : Mad
   unfolding given_rules
   all_rules = first_on_line (line_of s) (rules ++ house)
 
-  pub tried_refused : (x : Refusal) {line : LineNo} → sound s ≡ true → line ≡ cond (sound s) (line_of s) no_line → right ≡ Refused x
-      → Tries expected s g (record { answer = on_line line right; checker = s; made = m })
-  tried_refused x ok n f =
-      let no : on_line (line_of s) right ≡ Accepted → ⊥ = λ a. never_refused (sym (rw f at a)) in
-      record {
-        answered = rw (n, ok) (ap (on_line (line_of s)) (f ∙ stopped rules house x (sym right_is ∙ f)) ∙ sym all_rules);
-        moved = λ a. absurd (no (rw (n, ok) at a));
-        right = λ a. absurd (no (rw (n, ok) at a));
-        made = e;
-      }
+  -- what the record's own check answers, on its line, is that of all rules where it refuses
+  pub tried_refused : {lined : Answer} {line : LineNo} {y : Refusal} {r : Result Tried Refusal} → sound s ≡ true → line ≡ cond (sound s) (line_of s) no_line
+      → lined ≡ on_line line right → lined ≡ Err y → IsErr r × IsErrAnd r (λ z. z ≡ y) → Tries expected s g r
+  tried_refused {lined} {line} {y} ok n l was out =
+      let (x, f) = refused_on_line line right (sym l ∙ was) in
+      tries_not expected s g out (sym was ∙ l ∙ rw (n, ok) (ap (on_line (line_of s)) (f ∙ stopped rules house x (sym right_is ∙ f)) ∙ sym all_rules))
 
-  module _ (may : MayTry expected g.which s) (a : right ≡ Accepted) where
+  module _ (may : MayTry expected g.which s) (a : right ≡ Ok tt) where
     kept : AllKept rules
     kept = accepted_kept rules (sym right_is ∙ a)
 
@@ -115,34 +124,44 @@ module _ (expected : Bool) (s : Checker) (g : Fields) (whole : Whole g) {m : Mad
     unfolding AllKept
     well = record { whole = whole; printable = kept.0; fields = kept_accepted _ kept.1.1 }
 
-    m_right : m.answer ≡ Accepted
+    m_right : m.answer ≡ Ok tt
     m_right = sym (q ∙ rw is_expected) ∙ a
 
     bytes_are : m.bytes ≡ bytes_of s g
     bytes_are = ap (λ (x : Made). x.bytes) e ∙ made_bytes g.which s.dir v (sym (ap (λ (x : Made). x.answer) e) ∙ m_right)
 
-    pub tried_accepted : {x : Stepped} {line : List ℕ} → x ≡ step_of s line → line ≡ line_from m.bytes
-        → Tries expected s g (record { answer = x.answer; checker = x.state; made = m })
-    tried_accepted {x} {line} st l =
-        let follows = may.follows is_expected in
-        let limit = may.limit is_expected in
-        let ok = may.is_sound in
-        let is : x ≡ step_of s (line_from (bytes_of s g)) = rw (st, l, bytes_are) in
-        let by-house = ap (λ (y : Stepped). y.answer) is ∙ steps_by_house well follows ok limit in
-        let kind : is_one_of g.which (g.which ∷ []) ≡ true = itself g.which in
-        let ruled : first_broken house ≡ Accepted → Right (g.which ∷ []) s g = λ h. record { well = well; is_expected = kind; house = accepted_kept house h } in
-        record {
-          answered = by-house ∙ rw (gone_on rules house (sym right_is ∙ a)) (sym all_rules);
-          moved = λ h. ap (λ (y : Stepped). y.state) is ∙ (takes (ruled (off_line_accepted (line_of s) (first_broken house) (sym by-house ∙ h))) ok follows limit).moves;
-          right = λ h. m_right;
-          made = e;
-        }
+    -- then the checker's step answers the rest
+    module _ {x : Stepped} {line : List ℕ} (st : x ≡ step_of s line) (l : line ≡ line_from m.bytes) where
+      is : x ≡ step_of s (line_from (bytes_of s g))
+      is = rw (st, l, bytes_are)
+
+      by-house : x.answer ≡ on_line (line_of s) (first_broken house)
+      by-house = ap (λ (y : Stepped). y.answer) is ∙ steps_by_house well (may.follows is_expected) may.is_sound (may.limit is_expected)
+
+      by-all : x.answer ≡ first_broken (given_on_line expected s g)
+      by-all = by-house ∙ rw (gone_on rules house (sym right_is ∙ a)) (sym all_rules)
+
+      pub step_refused : {y : Refusal} {r : Result Tried Refusal} → x.answer ≡ Err y → IsErr r × IsErrAnd r (λ z. z ≡ y) → Tries expected s g r
+      step_refused was out = tries_not expected s g out (sym was ∙ by-all)
+
+      pub step_accepted : x.answer ≡ Ok tt → Tries expected s g (Ok (record { checker = x.state; made = m }))
+      step_accepted h =
+          let kept-house = accepted_kept house (off_line_accepted (line_of s) (first_broken house) (sym by-house ∙ h)) in
+          let ruled : Right (g.which ∷ []) s g = record { well = well; is_expected = itself g.which; house = kept-house } in
+          record {
+            answered = sym h ∙ by-all;
+            makes = record {
+              moved = ap (λ (y : Stepped). y.state) is ∙ (takes ruled may.is_sound (may.follows is_expected) (may.limit is_expected)).moves;
+              right = m_right;
+              made = e;
+            };
+          }
 
 -- a right record is put where there is room
-pub put_right : (m : Made) {out last : List ℕ} {a : Answer} → length m.fields.text ≡ record_bytes → m.answer ≡ Accepted → record_bytes ≤ length out
+pub put_right : (m : Made) {out last : List ℕ} {a : Answer} → length m.fields.text ≡ record_bytes → m.answer ≡ Ok tt → record_bytes ≤ length out
     → Puts m out a last → last ≡ record_of m.fields.which m.fields ++ drop record_bytes out
 put_right m {out} {last} {a} full right roomy p =
-    let ok : a ≡ Accepted = p.answered ∙ rw right (sym (past 50 0 _ [] Accepted (le-leb _ _ roomy) done)) in
+    let ok : a ≡ (Ok tt) = p.answered ∙ rw right (sym (past 50 0 _ [] (Ok tt) (le-leb _ _ roomy) done)) in
     rw (ok, record_length m.fields.which m.fields full) at p.memory
 
 -- the line of a record that was tried
@@ -152,23 +171,26 @@ line_made s g e = ap line_with e ∙ rw (filled_which g.which s g)
 
 -- ---- a record, and those behind it
 
-module _ (s : Checker) (g : Fields) (gs : List Fields) (expected : List (List Record)) {t : Tried} (h : Tries (is_one_of g.which (expected_now expected)) s g t) where
-  goes_on : t.answer ≡ Accepted → first_broken (all_given (drop 1 expected) t.checker gs) ≡ first_broken (all_given expected s (g ∷ gs))
-  unfolding all_given
-  goes_on e = rw (h.moved e) (gone_on (given_on_line (is_one_of g.which (expected_now expected)) s g) _ (sym h.answered ∙ e))
+module _ (s : Checker) (g : Fields) (gs : List Fields) (expected : List (List Record)) where
+  abbrev is_now : Bool
+  is_now = is_one_of g.which (expected_now expected)
 
-  stops : (r : Refusal) → t.answer ≡ Refused r → t.answer ≡ first_broken (all_given expected s (g ∷ gs))
+  goes_on : {t : Tried} → Tries is_now s g (Ok t) → first_broken (all_given (drop 1 expected) t.checker gs) ≡ first_broken (all_given expected s (g ∷ gs))
   unfolding all_given
-  stops r e = e ∙ stopped (given_on_line (is_one_of g.which (expected_now expected)) s g) _ r (sym h.answered ∙ e)
+  goes_on h = rw h.makes.moved (gone_on (given_on_line is_now s g) _ (sym h.answered))
+
+  stops : {r : Refusal} → Tries is_now s g (Err r) → Err r ≡ first_broken (all_given expected s (g ∷ gs))
+  unfolding all_given
+  stops {r} h = stopped (given_on_line is_now s g) _ r (sym h.answered)
 
 -- an accepted record is the one that is expected
-was_expected : (expected : Bool) (s : Checker) (g : Fields) {t : Tried} → Tries expected s g t → t.answer ≡ Accepted → expected ≡ true
+was_expected : (expected : Bool) (s : Checker) (g : Fields) {t : Tried} → Tries expected s g (Ok t) → expected ≡ true
 unfolding AllKept given_rules
-was_expected expected s g h e = (off_line (line_of s) (given_rules expected g.which s.dir (bytes_of s g)) (accepted_kept _ (sym h.answered ∙ e))).1.0
+was_expected expected s g h = (off_line (line_of s) (given_rules expected g.which s.dir (bytes_of s g)) (accepted_kept _ (sym h.answered))).1.0
 
 -- ---- the records of a payment
 
-all_right_and : {ms : List Made} (m : Made) → AllRight ms → m.answer ≡ Accepted → AllRight (ms ++ m ∷ [])
+all_right_and : {ms : List Made} (m : Made) → AllRight ms → m.answer ≡ Ok tt → AllRight (ms ++ m ∷ [])
 all_right_and m none_made e = one_more e none_made
 all_right_and m (one_more r on) e = one_more r (all_right_and m on e)
 
@@ -186,7 +208,7 @@ pub going_first : {s : Checker} (p : Payment) (made : List Made) → MayPay s �
 going_first p made k n = record { behind = omega arith; stands = before k; answers = refl; moves = refl; right = none_made; lines = refl; long = n }
 
 module _ {s t : Checker} {p : Payment} {made : List Made} {k : ℕ} (h : Going s p made t k) where
-  module _ (more : k < length (records_in p)) {x : Tried} (y : Tries (expected_at k s.dir s.batch (nth_in k p).which) t (nth_in k p) x) where
+  module _ (more : k < length (records_in p)) where
     abbrev g : Fields
     g = nth_in k p
 
@@ -196,54 +218,54 @@ module _ {s t : Checker} {p : Payment} {made : List Made} {k : ℕ} (h : Going s
     here_on : drop k (records_in p) ≡ g ∷ later
     here_on = from_position p k more
 
-    pub going_stopped : (r : Refusal) → x.answer ≡ Refused r → TriesPayment s p (record { answer = x.answer; checker = x.checker; made = made })
-    going_stopped r e =
-        record {
-          answered = stops t g later (drop k (expected_in_payment s)) y r e ∙ ap (λ (gs : List Fields). first_broken (all_given (drop k (expected_in_payment s)) t gs)) (sym here_on) ∙ h.answers;
-          moved = λ q. never_refused (sym q ∙ e);
-          right = λ q. never_refused (sym q ∙ e);
-          made = λ q. never_refused (sym q ∙ e);
-          places = h.long;
-        }
+    abbrev is_here : Bool
+    is_here = expected_at k s.dir s.batch g.which
 
-    pub going_on : x.answer ≡ Accepted → Going s p (set made k x.made) x.checker (k + 1)
+    pub going_stopped : {e : Refusal} {r : Result TriedPayment Refusal} → Tries is_here t g (Err e) → IsErr r × IsErrAnd r (λ z. z ≡ e) → TriesPayment s p r
+    going_stopped y out =
+        let there = ap (λ (gs : List Fields). first_broken (all_given (drop k (expected_in_payment s)) t gs)) (sym here_on) in
+        subst (TriesPayment s p) (sym (left_with out)) (record { answered = stops t g later (drop k (expected_in_payment s)) y ∙ there ∙ h.answers; makes = tt })
+
+    pub going_on : {x : Tried} → Tries is_here t g (Ok x) → Going s p (set made k x.made) x.checker (k + 1)
     unfolding behind_all lines_for
-    going_on e =
+    going_on {x} y =
         let m = x.made in
         let short : k < length made = omega (arith, h.long, some_few p) in
         let taken = take-suc-set made k m short in
         let on : Going s p (set made k m) (next_by t g) (suc k) = record {
           behind = omega arith;
-          stands = inside_next g.which (bytes_of t g) h.stands (was_expected _ t g y e);
+          stands = inside_next g.which (bytes_of t g) h.stands (was_expected _ t g y);
           answers =
-              rw (← drop_one k (expected_in_payment s), ← (y.moved e))
-              (goes_on t g later (drop k (expected_in_payment s)) y e
+              rw (← drop_one k (expected_in_payment s), ← y.makes.moved)
+              (goes_on t g later (drop k (expected_in_payment s)) y
               ∙ ap (λ (gs : List Fields). first_broken (all_given (drop k (expected_in_payment s)) t gs)) (sym here_on)
               ∙ h.answers);
           moves = ap (behind_all t) (sym here_on) ∙ h.moves;
-          right = rw taken (all_right_and m h.right (y.right e));
+          right = rw taken (all_right_and m h.right y.makes.right);
           lines =
-              rw (taken, lines_and (take k made) m, line_made t g y.made, append_assoc)
+              rw (taken, lines_and (take k made) m, line_made t g y.makes.made, append_assoc)
               (ap (λ (gs : List Fields). lines_with (take k made) ++ lines_for t gs) (sym here_on) ∙ h.lines);
           long = length-set made k m ∙ h.long;
         } in
-        rw (add-one k, y.moved e) on
+        rw (add-one k, y.makes.moved) on
 
-  pub gone_through : length (records_in p) ≤ k → TriesPayment s p (record { answer = Accepted; checker = t; made = made })
+  pub gone_through : length (records_in p) ≤ k → TriesPayment s p (Ok (record { checker = t; made = made }))
   unfolding first_broken all_given behind_all lines_for
   gone_through past =
       let none : drop k (records_in p) ≡ [] = drop_of_length-le (records_in p) {i = k} past in
       let all : k ≡ length (records_in p) = omega (arith, h.behind) in
       record {
         answered = sym (ap (λ (gs : List Fields). first_broken (all_given (drop k (expected_in_payment s)) t gs)) none) ∙ h.answers;
-        moved = λ q. sym (ap (behind_all t) none) ∙ h.moves;
-        right = λ q. rw (← all) h.right;
-        made = λ q. rw (← all) (sym (append-nil (lines_with (take k made))) ∙ ap (λ (gs : List Fields). lines_with (take k made) ++ lines_for t gs) (sym none) ∙ h.lines);
-        places = h.long;
+        makes = record {
+          moved = sym (ap (behind_all t) none) ∙ h.moves;
+          right = rw (← all) h.right;
+          made = rw (← all) (sym (append-nil (lines_with (take k made))) ∙ ap (λ (gs : List Fields). lines_with (take k made) ++ lines_for t gs) (sym none) ∙ h.lines);
+          places = h.long;
+        };
       }
 
 -- the one at a position is right
-pub right_at : (ms : List Made) (n k : ℕ) (m : Made) → AllRight (take n ms) → k < n → k < length ms → (get_or ms k m).answer ≡ Accepted
+pub right_at : (ms : List Made) (n k : ℕ) (m : Made) → AllRight (take n ms) → k < n → k < length ms → (get_or ms k m).answer ≡ Ok tt
 right_at [] n k m r h in_all = absurd (omega arith)
 right_at (x ∷ ms) zero k m r h in_all = absurd (omega arith)
 right_at (x ∷ ms) (suc n) zero m (one_more e on) h in_all = e

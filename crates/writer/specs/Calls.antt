@@ -1,8 +1,7 @@
 -- Calls one after the other, each lent some memory; a refused one leaves the state, and the next is made all the same. Assumes nothing.
 use mathlib.Core.List.{List, [], ◌∷◌, ◌++◌, flatten}
-use Rattle.std.specs.Prelude.{ℕ, length}
-use Rattle.answer.specs.declared.Answer.{Answer}
-use Rattle.answer.specs.declared.Answer.TheVariants.{Accepted, Refused}
+use Rattle.std.specs.Prelude.{ℕ, length, Err, Ok}
+use Rattle.answer.specs.Rules.{Answer}
 use Rattle.fields.specs.Values.{Whole}
 use Rattle.fields.specs.declared.Fields.{Fields}
 use Rattle.checker.specs.Totals.{bare, none, add}
@@ -36,8 +35,8 @@ left w (l ∷ ls) = left (state_behind w l) ls
 -- ---- what the accepted calls write
 
 abbrev pub lines_if : Answer → List (List ℕ) → List (List ℕ)
-lines_if Accepted ls = ls
-lines_if (Refused r) ls = []
+lines_if (Ok tt) ls = ls
+lines_if (Err r) ls = []
 
 unfoldable pub written : Writer → List Lent → List (List ℕ)
 written w [] = []
@@ -57,8 +56,8 @@ put_by (close_batch v) = bare 0 1
 put_by (close_file v) = bare 0 1
 
 abbrev pub totals_if : Answer → Totals → Totals
-totals_if Accepted t = t
-totals_if (Refused r) t = none
+totals_if (Ok tt) t = t
+totals_if (Err r) t = none
 
 unfoldable pub put_in : Writer → List Lent → Totals
 put_in w [] = none

@@ -1,10 +1,9 @@
 -- What a call does: its answer, the state and the output afterwards. Assumes nothing.
-use Rattle.std.specs.Prelude.{◌≡◌, ℕ, ◌+◌, length, take, drop}
+use Rattle.std.specs.Prelude.{◌≡◌, ℕ, ◌+◌, length, take, drop, Err, Ok}
 use mathlib.Core.List.{List, [], ◌∷◌, ◌++◌, flatten}
 use Rattle.fields.specs.declared.Fields.{Fields}
 use Rattle.answer.specs.Rules.{first_broken}
-use Rattle.answer.specs.declared.Answer.{Answer}
-use Rattle.answer.specs.declared.Answer.TheVariants.{Accepted, Refused}
+use Rattle.answer.specs.Rules.{Answer}
 use Rattle.checker.specs.Line.{line_from}
 use Rattle.checker.specs.Machine.{start}
 use Rattle.checker.specs.declared.Checker.{Checker}
@@ -36,12 +35,12 @@ cursor_behind w gs = w.cursor + size (length gs)
 
 -- a refusal leaves the state and the output
 abbrev pub state_after : Answer → Writer → List Fields → Writer
-state_after Accepted w gs = writer (behind_all w.checker gs) (cursor_behind w gs)
-state_after (Refused r) w gs = w
+state_after (Ok tt) w gs = writer (behind_all w.checker gs) (cursor_behind w gs)
+state_after (Err r) w gs = w
 
 abbrev pub output_after : Answer → Writer → List Fields → List ℕ → List ℕ
-output_after Accepted w gs out = take w.cursor out ++ (flatten (lines_for w.checker gs) ++ drop (cursor_behind w gs) out)
-output_after (Refused r) w gs out = out
+output_after (Ok tt) w gs out = take w.cursor out ++ (flatten (lines_for w.checker gs) ++ drop (cursor_behind w gs) out)
+output_after (Err r) w gs out = out
 
 -- ---- a call
 

@@ -72,8 +72,7 @@ impl Payment {
     pub(crate) fn records(self) -> usize
         ensures { (result ≡ length (records_in self)) × (result ≤ most_details) }
     {
-        let count = self.count;
-        match count {
+        match self.count {
             Count::Two => 2,
             Count::Three => 3,
             Count::One => 1,
@@ -84,12 +83,9 @@ impl Payment {
     pub(crate) fn first_record(self) -> Fields
         ensures { result ≡ first_in self }
     {
-        let first = self.first;
-        let count = self.count;
-        match count {
-            Count::Two => first,
-            Count::Three => first,
-            Count::One => first.taken_as(Record::SegmentO),
+        match self.count {
+            Count::Two | Count::Three => self.first,
+            Count::One => self.first.taken_as(Record::SegmentO),
         }
     }
 

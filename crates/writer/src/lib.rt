@@ -7,15 +7,14 @@ mod payments;
 mod records;
 mod turns;
 
-ghost use Rattle.std.specs.Prelude.{◌≡◌, true, ◌∷◌, [], ◌+◌, leb};
+ghost use Rattle.std.specs.Prelude.{◌≡◌, true, ◌∷◌, [], ◌+◌, leb, Ok};
 ghost use Rattle.answer.specs.Rules.{first_broken};
 ghost use Rattle.answer.specs.Output.{room};
-ghost use Rattle.answer.specs.declared.Answer.TheVariants.{Accepted};
 ghost use Rattle.writer.specs.Given.{records_in, open_file, open_batch, pay, close_batch, close_file};
 ghost use Rattle.writer.specs.Outcome.{new_writer, Wrote};
-ghost use Rattle.writer.specs.inner.Steps.{WroteIn, one_rules, payment_rules, MayTry, MayPay};
+ghost use Rattle.writer.specs.inner.Steps.{handed_back, WroteIn, one_rules, payment_rules, MayTry, MayPay};
 
-use answer::{Answer, RecordCount, numbers};
+use answer::{Answer, RecordCount, Refusal, numbers};
 use checker::{Checker, LINE_BYTES};
 use fields::Fields;
 pub use given::Payment;
@@ -73,140 +72,102 @@ impl Writer {
     fn room(self, bytes: usize, out: &[u8]) -> Answer
         ensures { result ≡ first_broken (room (self.cursor + bytes) out.now ∷ []) }
     {
-        Answer::test(numbers::NO_ROOM, 0, has_room(self.cursor, bytes, out.len()))
+        answer::test(numbers::NO_ROOM, 0, has_room(self.cursor, bytes, out.len()))
+    }
+
+    // The state behind a call, or where the call is refused the one before it; and the answer.
+    fn hand_back(self, behind: Result<Writer, Refusal>) -> Written
+        ensures { result ≡ handed_back self behind }
+    {
+        match behind {
+            Ok(state) => Written {
+                state,
+                answer: Ok(()),
+            },
+            Err(refusal) => Written {
+                state: self,
+                answer: Err(refusal),
+            },
+        }
     }
 
     // A call that writes one record, a header or a trailer, behind its turn.
-    fn write_one(self, turn: Answer, v: Fields, out: &mut [u8]) -> Written
-        requires { turn ≡ Accepted → MayTry true v.which self.checker }
-        ensures { WroteIn turn (one_rules self v out.old) self (v ∷ []) out.old out.new result }
+    fn write_one(self, turn: Answer, v: Fields, out: &mut [u8]) -> Result<Writer, Refusal>
+        requires { turn ≡ Ok tt → MayTry true v.which self.checker }
+        ensures { WroteIn turn (one_rules self v out.old) self (v ∷ []) out.old out.new (handed_back self result) }
     {
-        match turn {
-            Answer::Accepted => {}
-            Answer::Refused(_) => {
-                return Written {
-                    state: self,
-                    answer: turn,
-                };
-            }
-        }
-        let cursor = self.cursor;
-        let checker = self.checker;
-        let tried = try_record(checker, true, v);
-        let right = tried.answer;
-        let room = self.room(LINE_BYTES, out).on_line(checker.next_line());
-        let answer = right.and_then(room);
-        match answer {
-            Answer::Refused(_) => Written {
-                state: self,
-                answer,
-            },
-            Answer::Accepted => {
-                let made = tried.made;
-                let checker = tried.checker;
-                put_line(made, &mut out[cursor..]);
-                Written {
-                    state: Writer {
-                        checker,
-                        cursor: cursor + LINE_BYTES,
-                    },
-                    answer,
-                }
-            }
-        }
+        turn?;
+        let tried = try_record(self.checker, true, v)?;
+        answer::on_line(self.room(LINE_BYTES, out), self.checker.next_line())?;
+        put_line(tried.made, &mut out[self.cursor..]);
+        Ok(Writer {
+            checker: tried.checker,
+            cursor: self.cursor + LINE_BYTES,
+        })
     }
 
     // The file header, which gives the file its bank and its direction.
     pub fn open_file(self, v: Fields, out: &mut [u8]) -> Written
         ensures { Wrote self (open_file v) out.old out.new result }
     {
-        let checker = self.checker;
-        let may = turns_at(checker.phase()).header;
-        let turn = check_turn(checker, may, Answer::Accepted);
-        self.write_one(turn, v.taken_as(Record::FileHeader), out)
+        let may = turns_at(self.checker.phase()).header;
+        let turn = check_turn(self.checker, may, Ok(()));
+        self.hand_back(self.write_one(turn, v.taken_as(Record::FileHeader), out))
     }
 
     // A batch header, whose service and form give the batch its kind.
     pub fn open_batch(self, v: Fields, out: &mut [u8]) -> Written
         ensures { Wrote self (open_batch v) out.old out.new result }
     {
-        let checker = self.checker;
-        let may = turns_at(checker.phase()).batch;
+        let may = turns_at(self.checker.phase()).batch;
         let given = v.taken_as(Record::BatchHeader);
-        let turn = check_turn(checker, may, batch_limits(checker, given));
-        self.write_one(turn, given, out)
+        let turn = check_turn(self.checker, may, batch_limits(self.checker, given));
+        self.hand_back(self.write_one(turn, given, out))
     }
 
     // A payment, behind its turn: its records, then the sum of all payments so far, then room.
-    fn write_payment(self, turn: Answer, p: Payment, out: &mut [u8]) -> Written
-        requires { turn ≡ Accepted → MayPay self.checker }
-        ensures { WroteIn turn (payment_rules self p out.old) self (records_in p) out.old out.new result }
+    fn write_payment(self, turn: Answer, p: Payment, out: &mut [u8]) -> Result<Writer, Refusal>
+        requires { turn ≡ Ok tt → MayPay self.checker }
+        ensures { WroteIn turn (payment_rules self p out.old) self (records_in p) out.old out.new (handed_back self result) }
     {
-        match turn {
-            Answer::Accepted => {}
-            Answer::Refused(_) => {
-                return Written {
-                    state: self,
-                    answer: turn,
-                };
-            }
-        }
-        let cursor = self.cursor;
-        let checker = self.checker;
-        let tried = try_payment(checker, p);
-        let right = tried.answer;
+        turn?;
+        let tried = try_payment(self.checker, p)?;
         let count = p.records();
         let bytes = LINE_BYTES * count;
-        let last = check_sum(checker, p).and_then(self.room(bytes, out));
-        let answer = right.and_then(last.on_line(checker.next_line()));
-        match answer {
-            Answer::Refused(_) => Written {
-                state: self,
-                answer,
-            },
-            Answer::Accepted => {
-                let checker = tried.checker;
-                let made = tried.made;
-                put_payment(count, made, &mut out[cursor..]);
-                Written {
-                    state: Writer {
-                        checker,
-                        cursor: cursor + bytes,
-                    },
-                    answer,
-                }
-            }
-        }
+        let last = check_sum(self.checker, p).and(self.room(bytes, out));
+        answer::on_line(last, self.checker.next_line())?;
+        put_payment(count, tried.made, &mut out[self.cursor..]);
+        Ok(Writer {
+            checker: tried.checker,
+            cursor: self.cursor + bytes,
+        })
     }
 
     // Two records, or in a return perhaps three.
     pub fn payment(self, p: Payment, out: &mut [u8]) -> Written
         ensures { Wrote self (pay p) out.old out.new result }
     {
-        let checker = self.checker;
-        let may = turns_at(checker.phase()).payment;
-        let limits = payment_limits(checker, RecordCount(p.records() as u64));
-        let turn = check_turn(checker, may, limits);
-        self.write_payment(turn, p, out)
+        let may = turns_at(self.checker.phase()).payment;
+        let limits = payment_limits(self.checker, RecordCount(p.records() as u64));
+        let turn = check_turn(self.checker, may, limits);
+        self.hand_back(self.write_payment(turn, p, out))
     }
 
     // The batch trailer: the writer counts and sums, the caller gives the other fields.
     pub fn close_batch(self, v: Fields, out: &mut [u8]) -> Written
         ensures { Wrote self (close_batch v) out.old out.new result }
     {
-        let checker = self.checker;
-        let may = turns_at(checker.phase()).trailer;
-        let turn = check_turn(checker, may, Answer::Accepted);
-        self.write_one(turn, v.taken_as(Record::BatchTrailer), out)
+        let may = turns_at(self.checker.phase()).trailer;
+        let turn = check_turn(self.checker, may, Ok(()));
+        self.hand_back(self.write_one(turn, v.taken_as(Record::BatchTrailer), out))
     }
 
     // The file trailer. Behind it every call is out of turn.
     pub fn close_file(self, v: Fields, out: &mut [u8]) -> Written
         ensures { Wrote self (close_file v) out.old out.new result }
     {
-        let checker = self.checker;
-        let may = turns_at(checker.phase()).end;
-        let turn = check_turn(checker, may, Answer::Accepted);
-        self.write_one(turn, v.taken_as(Record::FileTrailer), out)
+        let may = turns_at(self.checker.phase()).end;
+        let turn = check_turn(self.checker, may, Ok(()));
+        self.hand_back(self.write_one(turn, v.taken_as(Record::FileTrailer), out))
     }
 }

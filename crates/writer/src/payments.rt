@@ -11,18 +11,16 @@ ghost use Rattle.writer.specs.inner.Steps.{lines_with, nth_in, expected_at, MayT
 
 use super::given::{MOST_RECORDS, Payment};
 use super::records::{Tried, put_line, try_record};
-use answer::{Answer, Cents, numbers};
-use checker::{Checker, LINE_BYTES, Reading};
-use digits::Number;
+use answer::{Answer, Cents, Refusal, numbers};
+use checker::{Checker, LINE_BYTES};
 use fields::{Fields, Made};
 use layout::names::Name;
 use layout::{Amount, Batch, Direction, Record, names};
 
-// The answer, and where it accepts, the state behind all records, which are made. Behind the last
-// nothing is.
+// The state behind all records of a payment, and the records, which are made. Behind the last nothing
+// is.
 #[derive(Clone, Copy)]
 pub(crate) struct TriedPayment {
-    pub(crate) answer: Answer,
     pub(crate) checker: Checker,
     pub(crate) made: [Made; MOST_RECORDS],
 }
@@ -31,10 +29,7 @@ pub(crate) struct TriedPayment {
 fn is_z(which: Record, dir: Direction) -> bool
     ensures { result ≡ is_one_of which (z_in dir) }
 {
-    match dir {
-        Direction::Remittance => false,
-        Direction::Return => layout::is_same(which, Record::SegmentZ),
-    }
+    dir == Direction::Return && layout::is_same(which, Record::SegmentZ)
 }
 
 // Whether a record is the one that is expected at a position of a payment: the payment's own, or
@@ -42,10 +37,9 @@ fn is_z(which: Record, dir: Direction) -> bool
 fn is_expected(which: Record, dir: Direction, batch: Batch, position: u8) -> bool
     ensures { result ≡ expected_at position dir batch which }
 {
-    let own = checker::record_at(batch, position);
-    match own {
-        Reading::Line(expected) => layout::is_same(which, expected),
-        Reading::Nothing => {
+    match checker::record_at(batch, position) {
+        Some(expected) => layout::is_same(which, expected),
+        None => {
             let behind_last = (position != 0) & (position == checker::records_of(batch));
             behind_last & is_z(which, dir)
         }
@@ -56,72 +50,52 @@ fn is_expected(which: Record, dir: Direction, batch: Batch, position: u8) -> boo
 fn cents_at(v: Fields, name: Name) -> Cents
     ensures { result.0 ≡ or_zero (number_at name v) }
 {
-    match v.number_at(name) {
-        Number::Is(n) => Cents(n),
-        Number::Not => Cents(0),
-    }
+    Cents(v.number_at(name).unwrap_or(0))
 }
 
 // The amount of a payment stands in its first record.
 fn amount_of(v: Fields) -> Cents
     ensures { result.0 ≡ amount_of v.which v }
 {
-    let which = v.which;
-    let amount = layout::shape_of(which).amount;
-    match amount {
-        Amount::NoAmount => Cents(0),
-        Amount::AmountOfA => cents_at(v, names::A_AMOUNT),
-        Amount::AmountOfJ => cents_at(v, names::J_AMOUNT),
-        Amount::AmountOfO => cents_at(v, names::O_AMOUNT),
+    match layout::shape_of(v.which).amount {
+        None => Cents(0),
+        Some(Amount::OfA) => cents_at(v, names::A_AMOUNT),
+        Some(Amount::OfJ) => cents_at(v, names::J_AMOUNT),
+        Some(Amount::OfO) => cents_at(v, names::O_AMOUNT),
     }
 }
 
 // The record at a position of a payment, in a state.
-fn try_at(m: Checker, p: Payment, dir: Direction, batch: Batch, position: usize) -> Tried
+fn try_at(
+    m: Checker,
+    p: Payment,
+    dir: Direction,
+    batch: Batch,
+    position: usize,
+) -> Result<Tried, Refusal>
     requires position_lt_most_details { position < most_details }
     requires may_try { MayTry (expected_at position dir batch (nth_in position p).which) (nth_in position p).which m }
     ensures { Tries (expected_at position dir batch (nth_in position p).which) m (nth_in position p) result }
 {
     let v = p.record_at(position);
-    let which = v.which;
-    try_record(m, is_expected(which, dir, batch, position as u8), v)
+    try_record(m, is_expected(v.which, dir, batch, position as u8), v)
 }
 
 // All records of a payment, up to the first that is refused. Nothing is written yet.
-pub(crate) fn try_payment(m: Checker, p: Payment) -> TriedPayment
+pub(crate) fn try_payment(m: Checker, p: Payment) -> Result<TriedPayment, Refusal>
     requires { MayPay m }
     ensures { TriesPayment m p result }
 {
     let dir = m.direction();
     let batch = m.batch();
-    let count = p.records();
     let mut made = [Made::none(); MOST_RECORDS];
     let mut checker = m;
-    let mut k = 0;
-    while k < count {
-        let tried = try_at(checker, p, dir, batch, k);
-        let answer = tried.answer;
-        let one = tried.made;
-        let behind = tried.checker;
-        checker = behind;
-        match answer {
-            Answer::Accepted => {}
-            Answer::Refused(_) => {
-                return TriedPayment {
-                    answer,
-                    checker,
-                    made,
-                };
-            }
-        }
-        made[k] = one;
-        k += 1;
+    for position in 0..p.records() {
+        let tried = try_at(checker, p, dir, batch, position)?;
+        made[position] = tried.made;
+        checker = tried.checker;
     }
-    TriedPayment {
-        answer: Answer::Accepted,
-        checker,
-        made,
-    }
+    Ok(TriedPayment { checker, made })
 }
 
 // The lines of so many records, each over its part of this part of the output.
@@ -131,11 +105,8 @@ pub(crate) fn put_payment(count: usize, made: [Made; MOST_RECORDS], part: &mut [
     requires count_in_bounds { size count ≤ length part.old }
     ensures { part.new ≡ flatten (lines_with (take count made)) ++ drop (size count) part.old }
 {
-    let mut k = 0;
-    while k < count {
-        let start = k * LINE_BYTES;
-        put_line(made[k], &mut part[start..]);
-        k += 1;
+    for k in 0..count {
+        put_line(made[k], &mut part[k * LINE_BYTES..]);
     }
 }
 
@@ -145,8 +116,7 @@ pub(crate) fn check_sum(m: Checker, p: Payment) -> Answer
     requires { sound m ≡ true }
     ensures { result ≡ first_broken (sum_rule m p ∷ []) }
 {
-    let first = p.first_record();
     let paid = m.closed().cents().plus(m.current().cents());
-    let fits = paid.fit_a_file(amount_of(first));
-    Answer::test(numbers::FILE_SUM, 0, fits)
+    let fits = paid.fit_a_file(amount_of(p.first_record()));
+    answer::test(numbers::FILE_SUM, 0, fits)
 }

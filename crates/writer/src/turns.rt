@@ -7,7 +7,6 @@ ghost use Rattle.writer.specs.inner.Steps.{turn_of};
 
 use answer::{Answer, RecordCount, numbers};
 use checker::{Checker, MOST_BATCHES, MOST_PAYMENTS};
-use digits::Number;
 use fields::Fields;
 use layout::{Batch, Direction, Phase, names, places};
 
@@ -33,44 +32,16 @@ pub(crate) struct Turns {
     pub(crate) end: bool,
 }
 
-const NONE: Turns = Turns {
-    header: false,
-    batch: false,
-    payment: false,
-    trailer: false,
-    end: false,
-};
-
 pub(crate) fn turns_at(phase: Phase) -> Turns
     ensures { result ≡ turns phase }
 {
-    let mut may = NONE;
-    match phase {
-        Phase::Start => {
-            may.header = true;
-        }
-        Phase::Headed => {
-            may.batch = true;
-        }
-        Phase::Opened => {
-            may.payment = true;
-        }
-        Phase::Within(_) => {}
-        Phase::Paid => {
-            may.payment = true;
-            may.trailer = true;
-        }
-        Phase::BehindZ => {
-            may.payment = true;
-            may.trailer = true;
-        }
-        Phase::Closed => {
-            may.batch = true;
-            may.end = true;
-        }
-        Phase::Ended => {}
+    Turns {
+        header: matches!(phase, Phase::Start),
+        batch: matches!(phase, Phase::Headed | Phase::Closed),
+        payment: matches!(phase, Phase::Opened | Phase::Paid | Phase::BehindZ),
+        trailer: matches!(phase, Phase::Paid | Phase::BehindZ),
+        end: matches!(phase, Phase::Closed),
     }
-    may
 }
 
 // Whether calls may have left this state; its sums fit then.
@@ -98,10 +69,10 @@ fn fits_file(m: Checker, more: RecordCount) -> bool
 fn kind_given(dir: Direction, v: Fields) -> Batch
     ensures { result ≡ kind_given dir v }
 {
-    let Number::Is(service) = v.number_at(names::BATCH_HEADER_SERVICE) else {
+    let Some(service) = v.number_at(names::BATCH_HEADER_SERVICE) else {
         return Batch::Unknown;
     };
-    let Number::Is(form) = v.number_at(names::BATCH_HEADER_FORM) else {
+    let Some(form) = v.number_at(names::BATCH_HEADER_FORM) else {
         return Batch::Unknown;
     };
     layout::batch_with(dir, service, form)
@@ -123,14 +94,10 @@ fn least_details(batch: Batch) -> RecordCount
 pub(crate) fn batch_limits(m: Checker, v: Fields) -> Answer
     ensures { result ≡ first_broken (batch_limits v m) }
 {
-    let few = Answer::test(
-        numbers::TOO_MANY,
-        places::TYPE,
-        m.closed().batches() < MOST_BATCHES,
-    );
+    let few = m.closed().batches() < MOST_BATCHES;
+    answer::test(numbers::TOO_MANY, places::TYPE, few)?;
     let least = least_details(kind_given(m.direction(), v));
-    let fits = fits_file(m, least.plus(BATCH_ENDS));
-    few.and_then(Answer::test(numbers::TOO_LONG, 0, fits))
+    answer::test(numbers::TOO_LONG, 0, fits_file(m, least.plus(BATCH_ENDS)))
 }
 
 // What a payment of so many records asks beyond its turn.
@@ -138,12 +105,9 @@ pub(crate) fn payment_limits(m: Checker, details: RecordCount) -> Answer
     requires { details.0 ≤ most_details }
     ensures { result ≡ first_broken (payment_limits details.0 m) }
 {
-    let few = Answer::test(
-        numbers::TOO_MANY,
-        places::SEGMENT,
-        m.current().payments() < MOST_PAYMENTS,
-    );
-    few.and_then(Answer::test(numbers::TOO_LONG, 0, fits_file(m, details.plus(TRAILERS))))
+    let few = m.current().payments() < MOST_PAYMENTS;
+    answer::test(numbers::TOO_MANY, places::SEGMENT, few)?;
+    answer::test(numbers::TOO_LONG, 0, fits_file(m, details.plus(TRAILERS)))
 }
 
 // The answer before any record is looked at.
@@ -151,8 +115,8 @@ pub(crate) fn check_turn(m: Checker, may: bool, limits: Answer) -> Answer
     ensures { result ≡ turn_of m may limits }
 {
     if !is_held(m) {
-        return Answer::refused(numbers::OUT_OF_TURN, 0);
+        return answer::refused(numbers::OUT_OF_TURN, 0);
     }
-    let asked = Answer::test(numbers::OUT_OF_TURN, 0, may).and_then(limits);
-    asked.on_line(m.next_line())
+    let asked = answer::test(numbers::OUT_OF_TURN, 0, may).and(limits);
+    answer::on_line(asked, m.next_line())
 }

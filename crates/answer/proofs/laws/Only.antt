@@ -1,18 +1,17 @@
 -- Rules whose refusals are of some kind: then so is the answer of the first that is broken. Assumes nothing.
-use Rattle.std.specs.Prelude.{◌≡◌, Bool, List, [], ◌∷◌, ◌++◌}
+use Rattle.std.specs.Prelude.{◌≡◌, Bool, List, [], ◌∷◌, ◌++◌, Err, Ok}
 use Rattle.std.proofs.Math.Path.{refl, subst}
 use Rattle.std.proofs.Common.{sym, ◌∙◌}
 use Rattle.std.proofs.Math.Bool.{true, false, cond}
 use Rattle.answer.specs.Rules.{Rule, refusal, first_broken, Broken, and_then, on_line, rules_on_line}
 use Rattle.answer.specs.declared.LineNo.{LineNo}
 use Rattle.answer.specs.declared.Refusal.{Refusal}
-use Rattle.answer.specs.declared.Answer.{Answer}
-use Rattle.answer.specs.declared.Answer.TheVariants.{Accepted, Refused}
+use Rattle.answer.specs.Rules.{Answer}
 use Rattle.answer.proofs.laws.Order.{never, never_refused, broken_refused, first_append, first_on_line}
 
 -- whatever is refused by these rules is so
 pub record Only (P : Refusal → Type 0) (rs : List Rule) : Type 0 where
-  pub broken : (r : Refusal) → first_broken rs ≡ Refused r → P r
+  pub broken : (r : Refusal) → first_broken rs ≡ Err r → P r
 
 module _ {P : Refusal → Type 0} where
   -- no rules
@@ -25,7 +24,7 @@ module _ {P : Refusal → Type 0} where
   unfolding first_broken
   first x {rs} here later = record { broken = λ r e. go r x.kept refl e }
     where
-      go : (r : Refusal) (k : Bool) → x.kept ≡ k → cond k (first_broken rs) (Refused x.refused) ≡ Refused r → P r
+      go : (r : Refusal) (k : Bool) → x.kept ≡ k → cond k (first_broken rs) (Err x.refused) ≡ Err r → P r
       go r true q e = (later q).broken r e
       go r false q e = subst P (cc) (here q)
 
@@ -40,9 +39,9 @@ module _ {P : Refusal → Type 0} where
   pub join : {xs ys : List Rule} → Only P xs → Only P ys → Only P (xs ++ ys)
   join {xs} {ys} a b = record { broken = λ r e. go r (first_broken xs) refl (sym (first_append xs ys) ∙ e) }
     where
-      go : (r : Refusal) (x : Answer) → first_broken xs ≡ x → and_then x (first_broken ys) ≡ Refused r → P r
-      go r Accepted q e = b.broken r e
-      go r (Refused y) q e = a.broken r (q ∙ e)
+      go : (r : Refusal) (x : Answer) → first_broken xs ≡ x → and_then x (first_broken ys) ≡ Err r → P r
+      go r (Ok tt) q e = b.broken r e
+      go r (Err y) q e = a.broken r (q ∙ e)
 
   pub broken_so : {rs : List Rule} {r : Refusal} → Only P rs → Broken rs r → P r
   broken_so {rs} {r} a b = a.broken r (broken_refused rs r b)
@@ -52,6 +51,6 @@ pub on-line : {P Q : Refusal → Type 0} (l : LineNo) (rs : List Rule) → ((x :
     → Only Q (rules_on_line l rs)
 on-line {P} {Q} l rs so a = record { broken = λ r e. go r (first_broken rs) refl (sym (first_on_line l rs) ∙ e) }
   where
-    go : (r : Refusal) (x : Answer) → first_broken rs ≡ x → on_line l x ≡ Refused r → Q r
-    go r Accepted q e = never_refused e
-    go r (Refused x) q e = let same : refusal x.number l x.place ≡ r = cc in subst Q same (so x (a.broken x q))
+    go : (r : Refusal) (x : Answer) → first_broken rs ≡ x → on_line l x ≡ Err r → Q r
+    go r (Ok tt) q e = never_refused e
+    go r (Err x) q e = let same : refusal x.number l x.place ≡ r = cc in subst Q same (so x (a.broken x q))

@@ -1,54 +1,53 @@
 -- Laws of rules in an order: what each answer says, that there is one answer, and rules behind others. Assumes nothing.
-use Rattle.std.specs.Prelude.{◌≡◌, Bool, true, false, cond, ℕ}
+use Rattle.std.specs.Prelude.{◌≡◌, Bool, true, false, cond, ℕ, Err, Ok}
 use Rattle.std.proofs.Math.Path.{refl}
 use Rattle.std.proofs.Common.{sym, ap, ◌∙◌, arith}
 use mathlib.Core.List.{List, [], ◌∷◌, ◌++◌, append_assoc}
 use Rattle.answer.specs.Rules.{Rule, rule, first_broken, AllKept, Broken, Allowed, accepted, refused, refused_as, and_then, on_line, rule_on_line, rules_on_line}
 use Rattle.answer.specs.declared.LineNo.{LineNo}
 use Rattle.answer.specs.declared.Refusal.{Refusal}
-use Rattle.answer.specs.declared.Answer.{Answer}
-use Rattle.answer.specs.declared.Answer.TheVariants.{Accepted, Refused}
+use Rattle.answer.specs.Rules.{Answer}
 
 -- a test that failed did not hold, and an acceptance is no refusal
 pub never : {A : Type 0} → false ≡ true → A
 never e = absurd (let z : ◌≡◌ {A = ℕ} 0 1 = cc in omega arith)
 
-pub never_refused : {A : Type 0} {r : Refusal} → Accepted ≡ Refused r → A
+pub never_refused : {A : Type 0} {r : Refusal} → ◌≡◌ {A = Answer} (Ok tt) (Err r) → A
 never_refused e = absurd (let z : ◌≡◌ {A = ℕ} 0 1 = cc in omega arith)
 
 -- ---- accepted exactly if every rule is kept
 
-pub kept_accepted : (rs : List Rule) → AllKept rs → first_broken rs ≡ Accepted
+pub kept_accepted : (rs : List Rule) → AllKept rs → first_broken rs ≡ Ok tt
 unfolding first_broken AllKept
 kept_accepted [] k = refl
 kept_accepted (r ∷ rs) k = rw k.0 (kept_accepted rs k.1)
 
-pub accepted_kept : (rs : List Rule) → first_broken rs ≡ Accepted → AllKept rs
+pub accepted_kept : (rs : List Rule) → first_broken rs ≡ Ok tt → AllKept rs
 unfolding first_broken AllKept
 accepted_kept [] e = tt
 accepted_kept (r ∷ rs) e = go r.kept refl (accepted_kept rs) e
   where
-    go : (k : Bool) → r.kept ≡ k → (first_broken rs ≡ Accepted → AllKept rs) → cond k (first_broken rs) (Refused r.refused) ≡ Accepted → (r.kept ≡ true) × AllKept rs
+    go : (k : Bool) → r.kept ≡ k → (first_broken rs ≡ Ok tt → AllKept rs) → cond k (first_broken rs) (Err r.refused) ≡ Ok tt → (r.kept ≡ true) × AllKept rs
     go true q rest e = (q, rest e)
     go false q rest e = never_refused (sym e)
 
 -- ---- refused exactly if that rule is broken and every earlier one is kept
 
 module _ (r : Refusal) (later : List Rule) where
-  stops_here : (earlier : List Rule) → AllKept earlier → first_broken (earlier ++ record { refused = r; kept = false } ∷ later) ≡ Refused r
+  stops_here : (earlier : List Rule) → AllKept earlier → first_broken (earlier ++ record { refused = r; kept = false } ∷ later) ≡ Err r
   unfolding first_broken AllKept
   stops_here [] k = refl
   stops_here (x ∷ earlier) k = rw k.0 (stops_here earlier k.1)
 
-pub broken_refused : (rs : List Rule) (r : Refusal) → Broken rs r → first_broken rs ≡ Refused r
+pub broken_refused : (rs : List Rule) (r : Refusal) → Broken rs r → first_broken rs ≡ Err r
 broken_refused rs r b = ap first_broken b.are ∙ stops_here r b.later b.earlier b.all_kept
 
-pub refused_broken : (rs : List Rule) (r : Refusal) → first_broken rs ≡ Refused r → Broken rs r
+pub refused_broken : (rs : List Rule) (r : Refusal) → first_broken rs ≡ Err r → Broken rs r
 unfolding first_broken AllKept
 refused_broken [] r e = never_refused e
 refused_broken (x ∷ rs) r e = go x.kept refl (refused_broken rs r) e
   where
-    go : (k : Bool) → x.kept ≡ k → (first_broken rs ≡ Refused r → Broken rs r) → cond k (first_broken rs) (Refused x.refused) ≡ Refused r → Broken (x ∷ rs) r
+    go : (k : Bool) → x.kept ≡ k → (first_broken rs ≡ Err r → Broken rs r) → cond k (first_broken rs) (Err x.refused) ≡ Err r → Broken (x ∷ rs) r
     go true q rest e =
         let b = rest e in
         record { earlier = x ∷ b.earlier; later = b.later; are = ap (λ (l : List Rule). x ∷ l) b.are; all_kept = (q, b.all_kept) }
@@ -64,8 +63,8 @@ pub first_allowed : (rs : List Rule) → Allowed rs (first_broken rs)
 first_allowed rs = go (first_broken rs) refl
   where
     go : (a : Answer) → first_broken rs ≡ a → Allowed rs a
-    go Accepted e = accepted (accepted_kept rs e)
-    go (Refused r) e = refused (refused_broken rs r e)
+    go (Ok tt) e = accepted (accepted_kept rs e)
+    go (Err r) e = refused (refused_broken rs r e)
 
 pub allowed_first : {rs : List Rule} {a : Answer} → Allowed rs a → a ≡ first_broken rs
 allowed_first {rs} (accepted k) = sym (kept_accepted rs k)
@@ -81,7 +80,7 @@ unfolding first_broken
 first_append [] ys = refl
 first_append (x ∷ xs) ys = rw (first_append xs ys) (go x.kept)
   where
-    go : (k : Bool) → cond k (and_then (first_broken xs) (first_broken ys)) (Refused x.refused) ≡ and_then (cond k (first_broken xs) (Refused x.refused)) (first_broken ys)
+    go : (k : Bool) → cond k (and_then (first_broken xs) (first_broken ys)) (Err x.refused) ≡ and_then (cond k (first_broken xs) (Err x.refused)) (first_broken ys)
     go true = refl
     go false = refl
 
@@ -105,7 +104,7 @@ unfolding first_broken
 first_on_line line [] = refl
 first_on_line line (r ∷ rs) = rw (first_on_line line rs) (go r.kept)
   where
-    go : (k : Bool) → cond k (on_line line (first_broken rs)) (Refused (rule_on_line line r).refused) ≡ on_line line (cond k (first_broken rs) (Refused r.refused))
+    go : (k : Bool) → cond k (on_line line (first_broken rs)) (Err (rule_on_line line r).refused) ≡ on_line line (cond k (first_broken rs) (Err r.refused))
     go true = refl
     go false = refl
 
@@ -119,24 +118,24 @@ pub here : (n p : ℕ) (k : Bool) (later : List Rule) → k ≡ false → refuse
 unfolding first_broken
 here n p k later e = rw e
 
-pub done : Accepted ≡ first_broken []
+pub done : (Ok tt) ≡ first_broken []
 unfolding first_broken
 done = refl
 
 -- behind rules that are all kept, and behind rules of which one is broken
-pub gone_on : (xs ys : List Rule) → first_broken xs ≡ Accepted → first_broken ys ≡ first_broken (xs ++ ys)
+pub gone_on : (xs ys : List Rule) → first_broken xs ≡ Ok tt → first_broken ys ≡ first_broken (xs ++ ys)
 gone_on xs ys e = sym (first_append xs ys ∙ rw e)
 
-pub stopped : (xs ys : List Rule) (r : Refusal) → first_broken xs ≡ Refused r → Refused r ≡ first_broken (xs ++ ys)
+pub stopped : (xs ys : List Rule) (r : Refusal) → first_broken xs ≡ Err r → Err r ≡ first_broken (xs ++ ys)
 stopped xs ys r e = sym (first_append xs ys ∙ rw e)
 
 -- what is accepted by all rules is accepted by the first of them
-pub front_accepted : (xs ys : List Rule) → first_broken (xs ++ ys) ≡ Accepted → first_broken xs ≡ Accepted
+pub front_accepted : (xs ys : List Rule) → first_broken (xs ++ ys) ≡ Ok tt → first_broken xs ≡ Ok tt
 front_accepted xs ys e = go (first_broken xs) (sym (first_append xs ys) ∙ e)
   where
-    go : (a : Answer) → and_then a (first_broken ys) ≡ Accepted → a ≡ Accepted
-    go Accepted q = refl
-    go (Refused r) q = q
+    go : (a : Answer) → and_then a (first_broken ys) ≡ Ok tt → a ≡ Ok tt
+    go (Ok tt) q = refl
+    go (Err r) q = q
 
 -- rules that are kept, one behind the other
 pub none_kept : AllKept []

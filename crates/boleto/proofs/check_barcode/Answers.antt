@@ -1,10 +1,14 @@
 -- `boleto::check_barcode` meets its contract. Assumes nothing.
-use mathlib.Core.Path.{sym}
-use Rattle.answer.proofs.laws.Order.{first_append}
+use Rattle.answer.proofs.laws.Leaving.{leaves, goes_on}
 use Rattle.boleto.specs.Rules.{barcode_rules}
 use Rattle.boleto.proofs.check_barcode.Goals as goal
+
+pub returns-in_err-check_head : goal.returns-in_err-check_head
+unfolding barcode_rules
+returns-in_err-check_head c =
+    leaves _ _ c.check_head.ensures c.in_err-check_head.was c.from_residual.ensures
 
 pub returns : goal.returns
 unfolding barcode_rules
 returns c =
-    rw (c.and_then.ensures, c.test.ensures, c.is_sealed.ensures, c.check_head-head.ensures) (sym (first_append _ _))
+    goes_on _ _ c.check_head.ensures c.in_ok-check_head.was (rw c.is_sealed.ensures at c.test.ensures)

@@ -1,9 +1,8 @@
 -- What an accepted barcode and an accepted line are. Assumes nothing.
-use Rattle.std.specs.Prelude.{◌≡◌, List, ℕ, length}
+use Rattle.std.specs.Prelude.{◌≡◌, List, ℕ, length, Ok}
 use Rattle.std.proofs.Common.{eq-eqb, eqb-true}
 use Rattle.answer.specs.Rules.{first_broken, AllKept}
 use Rattle.answer.proofs.laws.Order.{kept_accepted, accepted_kept}
-use Rattle.answer.specs.declared.Answer.TheVariants.{Accepted}
 use Rattle.digits.specs.Digits.{digit_byte, place, places}
 use Rattle.digits.proofs.laws.Strings.{Digits, leading_all, all_leading}
 use Rattle.digits.proofs.laws.Seals.{Sealed}
@@ -26,11 +25,11 @@ pub record Line (line : List ℕ) : Type 0 where
   pub third : Sealed Ten 10 (places 22 32 line)
   pub seal : Sealed Eleven 4 (barcode_of line)
 
-pub head_long : (n : ℕ) (bs : List ℕ) → first_broken (head_rules n bs) ≡ Accepted → length bs ≡ n
+pub head_long : (n : ℕ) (bs : List ℕ) → first_broken (head_rules n bs) ≡ Ok tt → length bs ≡ n
 unfolding head_rules AllKept
 head_long n bs e = eqb-true _ _ (accepted_kept (head_rules n bs) e).0
 
-pub barcode-of : (bar : List ℕ) → first_broken (barcode_rules bar) ≡ Accepted → Barcode bar
+pub barcode-of : (bar : List ℕ) → first_broken (barcode_rules bar) ≡ Ok tt → Barcode bar
 unfolding head_rules barcode_rules AllKept
 barcode-of bar e =
     let k = accepted_kept (barcode_rules bar) e in
@@ -41,13 +40,13 @@ barcode-of bar e =
       seal = eqb-true _ _ k.1.1.1.0;
     }
 
-pub of_barcode : (bar : List ℕ) → Barcode bar → first_broken (barcode_rules bar) ≡ Accepted
+pub of_barcode : (bar : List ℕ) → Barcode bar → first_broken (barcode_rules bar) ≡ Ok tt
 unfolding head_rules barcode_rules AllKept
 of_barcode bar b =
     kept_accepted (barcode_rules bar)
     (eq-eqb _ _ b.long, (eq-eqb _ _ (all_leading bar b.digits), (eq-eqb _ _ b.currency, (eq-eqb _ _ b.seal, tt))))
 
-pub line_of : (l : List ℕ) → first_broken (digit_line_rules l) ≡ Accepted → Line l
+pub line_of : (l : List ℕ) → first_broken (digit_line_rules l) ≡ Ok tt → Line l
 unfolding head_rules check_rules digit_line_rules AllKept
 line_of l e =
     let k = accepted_kept (digit_line_rules l) e in
@@ -62,7 +61,7 @@ line_of l e =
       seal = eqb-true _ _ c.1.1.1.0;
     }
 
-pub of_line : (l : List ℕ) → Line l → first_broken (digit_line_rules l) ≡ Accepted
+pub of_line : (l : List ℕ) → Line l → first_broken (digit_line_rules l) ≡ Ok tt
 unfolding head_rules check_rules digit_line_rules AllKept
 of_line l b =
     kept_accepted (digit_line_rules l) (

@@ -1,11 +1,10 @@
 -- Demand 3 for digit strings: another byte at a guarded place of an accepted barcode or line, and two neighbours of a barcode swapped, are refused.
 -- Assumes nothing.
-use Rattle.std.specs.Prelude.{◌≡◌, ◌≢◌, ◌⊎◌, not, List, ◌∷◌, ◌++◌, ℕ, suc, ◌+◌, ◌-◌, ◌<◌, ◌≤◌, length, get_or, take, drop, set, T}
+use Rattle.std.specs.Prelude.{◌≡◌, ◌≢◌, ◌⊎◌, not, List, ◌∷◌, ◌++◌, ℕ, suc, ◌+◌, ◌-◌, ◌<◌, ◌≤◌, length, get_or, take, drop, set, T, Ok}
 use Rattle.std.proofs.Common.{sym, ap, ◌∙◌, inl, inr, ⊎_elim, append_assoc, arith, length-take, length-drop, length-append, get_or-set_same, get_or-append-add}
 use Rattle.std.proofs.Math.Decide.{dec_lt}
 use Rattle.std.proofs.lemmas.List.{set-append_left, set-get_or}
 use Rattle.answer.specs.Rules.{first_broken}
-use Rattle.answer.specs.declared.Answer.TheVariants.{Accepted}
 use Rattle.digits.specs.Digits.{digit_byte, place, swapped}
 use Rattle.digits.proofs.laws.Strings.{Digits, part_set, part_kept, set_append_right}
 use Rattle.digits.proofs.laws.Moduli.{blind, ten_tells_digits, eleven_tells_digits}
@@ -28,8 +27,8 @@ module _ (bar : List ℕ) (i v : ℕ) (b : Barcode bar) (b' : Barcode (set bar i
       one_change Eleven bar 4 i v (omega arith) hi b.seal b'.seal eleven_tells_digits (b.digits.each i hi) (stored_digit bar i v hi b'.digits) f
 
 -- one byte of an accepted barcode changed at a guarded place is refused
-pub barcode_change : (bar : List ℕ) (p v : ℕ) → first_broken (barcode_rules bar) ≡ Accepted → GuardedInBarcode bar p → v ≢ place p bar →
-    first_broken (barcode_rules (set bar (p - 1) v)) ≢ Accepted
+pub barcode_change : (bar : List ℕ) (p v : ℕ) → first_broken (barcode_rules bar) ≡ Ok tt → GuardedInBarcode bar p → v ≢ place p bar →
+    first_broken (barcode_rules (set bar (p - 1) v)) ≢ (Ok tt)
 barcode_change bar p v e (all f lo up) ne e' =
     let b = barcode-of bar e in
     ne (barcode_same bar (p - 1) v b (barcode-of (set bar (p - 1) v) e') (omega arith) (λ _. other_than 1 _ (b.digits.each 4 (omega arith)).0 f))
@@ -41,8 +40,8 @@ barcode_change bar p v e check ne e' =
     ne (barcode_same bar 4 v (barcode-of bar e) (barcode-of (set bar 4 v) e') (omega arith) (λ n. absurd (n (omega arith))))
 
 -- two unequal neighbours swapped, neither of them the check digit, are refused when it isn't 1
-pub barcode_neighbours : (xs zs : List ℕ) (a b : ℕ) → first_broken (barcode_rules (xs ++ a ∷ b ∷ zs)) ≡ Accepted → place barcode_check (xs ++ a ∷ b ∷ zs) ≢ digit_byte 1 →
-    (length xs < 3) ⊎ (4 < length xs) → a ≢ b → first_broken (barcode_rules (xs ++ b ∷ a ∷ zs)) ≢ Accepted
+pub barcode_neighbours : (xs zs : List ℕ) (a b : ℕ) → first_broken (barcode_rules (xs ++ a ∷ b ∷ zs)) ≡ Ok tt → place barcode_check (xs ++ a ∷ b ∷ zs) ≢ digit_byte 1 →
+    (length xs < 3) ⊎ (4 < length xs) → a ≢ b → first_broken (barcode_rules (xs ++ b ∷ a ∷ zs)) ≢ (Ok tt)
 barcode_neighbours xs zs a b e f w ne e' =
     let c = barcode-of (xs ++ a ∷ b ∷ zs) e in
     let c' = barcode-of (xs ++ b ∷ a ∷ zs) e' in
@@ -52,8 +51,8 @@ barcode_neighbours xs zs a b e f w ne e' =
     ne (neighbours xs zs a b 4 c.seal c'.seal da db (⊎_elim (λ l. inr (omega arith)) (λ g. inl g) w) (other_than 1 _ (c.digits.each 4 (omega arith)).0 f))
 
 -- two unequal neighbours of an accepted barcode swapped are refused where swaps are guarded
-pub barcode_swap : (bar : List ℕ) (p : ℕ) → first_broken (barcode_rules bar) ≡ Accepted → GuardedPairInBarcode bar p → place p bar ≢ place (suc p) bar →
-    first_broken (barcode_rules (swapped p bar)) ≢ Accepted
+pub barcode_swap : (bar : List ℕ) (p : ℕ) → first_broken (barcode_rules bar) ≡ Ok tt → GuardedPairInBarcode bar p → place p bar ≢ place (suc p) bar →
+    first_broken (barcode_rules (swapped p bar)) ≢ (Ok tt)
 barcode_swap bar p e g ne e' =
     let i = p - 1 in
     let b = barcode-of bar e in
@@ -111,8 +110,8 @@ sharp_rest l p (checked lo up) = (lo, omega arith, λ h. absurd (omega arith))
 sharp_rest l p (rest f lo up) = (omega arith, up, λ h. f)
 
 -- one byte of an accepted line changed at a guarded place is refused
-pub line_change : (l : List ℕ) (p v : ℕ) → first_broken (digit_line_rules l) ≡ Accepted → GuardedInLine l p → v ≢ place p l →
-    first_broken (digit_line_rules (set l (p - 1) v)) ≢ Accepted
+pub line_change : (l : List ℕ) (p v : ℕ) → first_broken (digit_line_rules l) ≡ Ok tt → GuardedInLine l p → v ≢ place p l →
+    first_broken (digit_line_rules (set l (p - 1) v)) ≢ (Ok tt)
 line_change l p v e g ne e' =
     let s = sharp_rest l p g in
     ne (line_same l (p - 1) v (line_of l e) (line_of (set l (p - 1) v) e') (omega arith) s.2 (dec_lt (p - 1) 10) (dec_lt (p - 1) 21) (dec_lt (p - 1) 32))

@@ -1,11 +1,10 @@
 -- The general check of an accepted barcode swapped with the digit behind it, when it isn't 1: exactly when that is accepted. Assumes nothing.
-use Rattle.std.specs.Prelude.{◌≡◌, refl, ◌≢◌, ◌↔◌, ◌⊎◌, Bool, true, false, cond, not, ◌&&◌, ◌||◌, ℕ, ◌-◌, suc, ◌+◌, ◌*◌, ◌%◌, ◌≤◌, ◌<◌, T, eqb, length, get_or, take, drop, set}
+use Rattle.std.specs.Prelude.{◌≡◌, refl, ◌≢◌, ◌↔◌, ◌⊎◌, Bool, true, false, cond, not, ◌&&◌, ◌||◌, ℕ, ◌-◌, suc, ◌+◌, ◌*◌, ◌%◌, ◌≤◌, ◌<◌, T, eqb, length, get_or, take, drop, set, Ok}
 use Rattle.std.proofs.Common.{sym, ◌∙◌, subst, inl, inr, mod-lt, arith, eq-eqb, eqb→eq, lit<, length-set, length-drop, drop-cons, drop-set-lt, get_or-set_same, get_or-set_other}
 use Rattle.std.proofs.Math.Path.{ap}
 use mathlib.Core.List.{List, ◌∷◌, ◌++◌}
 use Rattle.std.proofs.lemmas.List.{take-set-le, drop-set-add}
 use Rattle.answer.specs.Rules.{first_broken}
-use Rattle.answer.specs.declared.Answer.TheVariants.{Accepted}
 use Rattle.digits.specs.Digits.{digit_of, digit_byte, place, swapped}
 use Rattle.digits.specs.Checks.{weight, counts, lift, check_digit, remainder}
 use Rattle.digits.proofs.laws.Tests.{every, every_at, both, or_left}
@@ -155,21 +154,21 @@ module _ (bar : List ℕ) (b : Barcode bar) where
   tested (nine e u) = rw (e, u) tt
 
 -- swapped it is accepted exactly if the swap is unseen
-pub check_swap : (bar : List ℕ) → first_broken (barcode_rules bar) ≡ Accepted → place barcode_check bar ≢ digit_byte 1 →
-    first_broken (barcode_rules (swapped barcode_check bar)) ≡ Accepted ↔ SwapUnseen bar
+pub check_swap : (bar : List ℕ) → first_broken (barcode_rules bar) ≡ Ok tt → place barcode_check bar ≢ digit_byte 1 →
+    first_broken (barcode_rules (swapped barcode_check bar)) ≡ (Ok tt) ↔ SwapUnseen bar
 check_swap bar e ne = (there, back)
   where
     b : Barcode bar
     b = barcode-of bar e
 
-    there : first_broken (barcode_rules (swapped barcode_check bar)) ≡ Accepted → SwapUnseen bar
+    there : first_broken (barcode_rules (swapped barcode_check bar)) ≡ Ok tt → SwapUnseen bar
     there e' =
         let s = (barcode-of (swapped barcode_check bar) e').seal in
         let is : first_of_factor bar ≡ digit_byte (check_of (rest bar b) (digit_of (check_in bar))) = sym (now_first bar b) ∙ s ∙ now_check bar b in
         let same : digit_of (first_of_factor bar) ≡ check_of (rest bar b) (digit_of (check_in bar)) = omega (arith, is, first_digit bar b) in
         told bar b (subst T (seen_by bar b ne) (rw (eq-eqb _ _ same) tt))
 
-    back : SwapUnseen bar → first_broken (barcode_rules (swapped barcode_check bar)) ≡ Accepted
+    back : SwapUnseen bar → first_broken (barcode_rules (swapped barcode_check bar)) ≡ Ok tt
     back u =
         let t = subst T (sym (seen_by bar b ne)) (tested bar b u) in
         let is = eqb→eq (digit_of (first_of_factor bar)) (check_of (rest bar b) (digit_of (check_in bar))) t in

@@ -1,9 +1,8 @@
 -- One digit of an accepted collection code or line changed, by modulus 11: exactly when it is accepted again. Assumes nothing.
-use Rattle.std.specs.Prelude.{◌≡◌, refl, ◌≢◌, ◌↔◌, List, ℕ, ◌+◌, ◌-◌, ◌%◌, ◌<◌, ◌≤◌, length, take, drop, set}
+use Rattle.std.specs.Prelude.{◌≡◌, refl, ◌≢◌, ◌↔◌, List, ℕ, ◌+◌, ◌-◌, ◌%◌, ◌<◌, ◌≤◌, length, take, drop, set, Ok}
 use Rattle.std.proofs.Common.{sym, ◌∙◌, arith, length-set, length-take, length-drop, get_or-set_other, drop-set-lt}
 use Rattle.std.proofs.Math.Decide.{dec_lt}
 use Rattle.answer.specs.Rules.{first_broken}
-use Rattle.answer.specs.declared.Answer.TheVariants.{Accepted}
 use Rattle.digits.specs.Digits.{without}
 use Rattle.digits.specs.Checks.{remainder}
 use Rattle.digits.specs.declared.sealing.Modulus.TheVariants.{PlainEleven}
@@ -29,9 +28,9 @@ BlockStays p line line' = Stays (remainder PlainEleven (without block_places (bl
 -- ---- the code
 
 -- by modulus 11 another digit is accepted exactly if the remainder stays
-module _ (code : List ℕ) (p v : ℕ) (e : first_broken (code_rules code) ≡ Accepted) (eleven : modulus_of code ≡ PlainEleven)
+module _ (code : List ℕ) (p v : ℕ) (e : first_broken (code_rules code) ≡ Ok tt) (eleven : modulus_of code ≡ PlainEleven)
     (lo : product_place < p) (up : p ≤ code_digits) (other : p ≢ identifier_place) (beside : p ≢ code_check) (d : Digit v) where
-  pub code_again : first_broken (code_rules (set code (p - 1) v)) ≡ Accepted ↔ CodeStays code (set code (p - 1) v)
+  pub code_again : first_broken (code_rules (set code (p - 1) v)) ≡ (Ok tt) ↔ CodeStays code (set code (p - 1) v)
   code_again =
       let c = code-of code e in
       let ne : p - 1 ≢ 2 = λ q. other (omega arith) in
@@ -96,13 +95,13 @@ module _ (l : List ℕ) (i v : ℕ) (a : CodeLine l) (h : i < code_line_digits) 
       }
 
 -- by modulus 11 another digit is accepted exactly if both remainders stay, of its block and of the code
-module _ (l : List ℕ) (p v : ℕ) (e : first_broken (code_line_rules l) ≡ Accepted) (eleven : modulus_of l ≡ PlainEleven)
+module _ (l : List ℕ) (p v : ℕ) (e : first_broken (code_line_rules l) ≡ Ok tt) (eleven : modulus_of l ≡ PlainEleven)
     (lo : product_place < p) (up : p ≤ code_line_digits) (other : p ≢ identifier_place) (beside : p ≢ code_check) (digit : p ≢ block_end p) (d : Digit v) where
-  pub code_line_again : first_broken (code_line_rules (set l (p - 1) v)) ≡ Accepted ↔
+  pub code_line_again : first_broken (code_line_rules (set l (p - 1) v)) ≡ (Ok tt) ↔
       (BlockStays p l (set l (p - 1) v) × CodeStays (code_of l) (code_of (set l (p - 1) v)))
   code_line_again = go (block_at (p - 1) (omega arith))
     where
-      go : Block (p - 1) → first_broken (code_line_rules (set l (p - 1) v)) ≡ Accepted ↔
+      go : Block (p - 1) → first_broken (code_line_rules (set l (p - 1) v)) ≡ (Ok tt) ↔
           (BlockStays p l (set l (p - 1) v) × CodeStays (code_of l) (code_of (set l (p - 1) v)))
       go b =
           let a = code-line-of l e in

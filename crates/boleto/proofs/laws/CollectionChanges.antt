@@ -1,10 +1,9 @@
 -- One byte of an accepted collection code or line changed: what is refused. Assumes nothing.
-use Rattle.std.specs.Prelude.{◌≡◌, refl, ◌≢◌, ◌⊎◌, not, List, ℕ, suc, ◌+◌, ◌-◌, ◌<◌, ◌≤◌, length, get_or, take, drop, set, T}
+use Rattle.std.specs.Prelude.{◌≡◌, refl, ◌≢◌, ◌⊎◌, not, List, ℕ, suc, ◌+◌, ◌-◌, ◌<◌, ◌≤◌, length, get_or, take, drop, set, T, Ok}
 use Rattle.std.proofs.Common.{sym, ap, ◌∙◌, subst, inl, inr, arith, length-take, length-drop, get_or-set_same}
 use Rattle.std.proofs.Math.Decide.{dec_lt, ℕ_discrete}
 use Rattle.answer.specs.Rules.{first_broken}
 use Rattle.answer.proofs.laws.Order.{never}
-use Rattle.answer.specs.declared.Answer.TheVariants.{Accepted}
 use Rattle.digits.specs.Digits.{digit_byte, place}
 use Rattle.digits.specs.Checks.{base, value_of, weight, counts}
 use Rattle.digits.specs.declared.sealing.Modulus.{Modulus}
@@ -59,8 +58,8 @@ code_seen code p v c c' product = sym (get_or-set_same code 0 v 0 (omega arith))
 code_seen code p v c c' check = code_told code 3 v c c' (omega arith) (modulus_kept code 3 v (λ q. omega arith)) (λ n. absurd (n refl))
 
 -- one byte of an accepted code changed at a guarded place is refused
-pub code_change : (code : List ℕ) (p v : ℕ) → first_broken (code_rules code) ≡ Accepted → GuardedInCode code p → v ≢ place p code →
-    first_broken (code_rules (set code (p - 1) v)) ≢ Accepted
+pub code_change : (code : List ℕ) (p v : ℕ) → first_broken (code_rules code) ≡ Ok tt → GuardedInCode code p → v ≢ place p code →
+    first_broken (code_rules (set code (p - 1) v)) ≢ (Ok tt)
 code_change code p v e g ne e' = ne (code_seen code p v (code-of code e) (code-of (set code (p - 1) v) e') g)
 
 identifier_seen : (code : List ℕ) (v : ℕ) → Code code → Code (set code 2 v) → SeenIdentifier code v → v ≡ place identifier_place code
@@ -76,8 +75,8 @@ identifier_seen code v c c' (same_modulus kept) = go (modulus_either code)
         one_of_two (get_or code 2 0) v was is (rw (c.long, value_is (get_or code 2 0) (omega arith), value_is v (omega arith)) at near)
 
 -- another identifier is refused, unless it is one of the other modulus
-pub identifier_change : (code : List ℕ) (v : ℕ) → first_broken (code_rules code) ≡ Accepted → SeenIdentifier code v → v ≢ place identifier_place code →
-    first_broken (code_rules (set code (identifier_place - 1) v)) ≢ Accepted
+pub identifier_change : (code : List ℕ) (v : ℕ) → first_broken (code_rules code) ≡ Ok tt → SeenIdentifier code v → v ≢ place identifier_place code →
+    first_broken (code_rules (set code (identifier_place - 1) v)) ≢ (Ok tt)
 identifier_change code v e g ne e' = ne (identifier_seen code v (code-of code e) (code-of (set code 2 v) e') g)
 
 -- ---- the line
@@ -207,8 +206,8 @@ line_seen l p v a a' (block f lo up other) =
 line_seen l p v a a' (weights ne op lo up inner) = weights_seen l p v a a' lo up ne op
 
 -- one byte of an accepted line changed at a guarded place is refused
-pub code_line_change : (l : List ℕ) (p v : ℕ) → first_broken (code_line_rules l) ≡ Accepted → GuardedInCodeLine l p → v ≢ place p l →
-    first_broken (code_line_rules (set l (p - 1) v)) ≢ Accepted
+pub code_line_change : (l : List ℕ) (p v : ℕ) → first_broken (code_line_rules l) ≡ Ok tt → GuardedInCodeLine l p → v ≢ place p l →
+    first_broken (code_line_rules (set l (p - 1) v)) ≢ (Ok tt)
 code_line_change l p v e g ne e' = ne (line_seen l p v (code-line-of l e) (code-line-of (set l (p - 1) v) e') g)
 
 line_identifier_seen : (l : List ℕ) (v : ℕ) → CodeLine l → CodeLine (set l 2 v) → SeenIdentifier l v → v ≡ place identifier_place l
@@ -219,6 +218,6 @@ line_identifier_seen l v a a' (same_modulus kept) =
     identifier_seen (code_of l) v (code_of_line l a) (subst Code stored (code_of_line (set l 2 v) a')) (same_modulus same) ∙ identifier_in_code l a.long
 
 -- another identifier is refused, unless it is one of the other modulus
-pub line_identifier_change : (l : List ℕ) (v : ℕ) → first_broken (code_line_rules l) ≡ Accepted → SeenIdentifier l v → v ≢ place identifier_place l →
-    first_broken (code_line_rules (set l (identifier_place - 1) v)) ≢ Accepted
+pub line_identifier_change : (l : List ℕ) (v : ℕ) → first_broken (code_line_rules l) ≡ Ok tt → SeenIdentifier l v → v ≢ place identifier_place l →
+    first_broken (code_line_rules (set l (identifier_place - 1) v)) ≢ (Ok tt)
 line_identifier_change l v e g ne e' = ne (line_identifier_seen l v (code-line-of l e) (code-line-of (set l 2 v) e') g)

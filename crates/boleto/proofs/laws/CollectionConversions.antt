@@ -1,10 +1,9 @@
 -- From the collection code to its line and back: the same digits, and both accepted. Assumes nothing.
-use Rattle.std.specs.Prelude.{◌≡◌, List, ℕ, ◌≤◌, length, get_or, take}
+use Rattle.std.specs.Prelude.{◌≡◌, List, ℕ, ◌≤◌, length, get_or, take, Ok}
 use Rattle.std.proofs.Common.{sym, subst}
 use Rattle.answer.specs.Rules.{first_broken}
 use Rattle.answer.specs.Output.{Writes}
-use Rattle.answer.specs.declared.Answer.{Answer}
-use Rattle.answer.specs.declared.Answer.TheVariants.{Accepted}
+use Rattle.answer.specs.Rules.{Answer}
 use Rattle.digits.specs.Digits.{places}
 use Rattle.digits.proofs.laws.Strings.{Digits, spelled_out, digits_append, digits_take, digits_drop}
 use Rattle.digits.specs.inner.Rows.{tab}
@@ -88,13 +87,13 @@ code_of_line l a =
     }
 
 -- an accepted code's line is accepted, and its code is that code
-pub code_there_and_back : (code : List ℕ) → first_broken (code_rules code) ≡ Accepted →
-    (first_broken (code_line_rules (code_line_of code)) ≡ Accepted) × (code_of (code_line_of code) ≡ code)
+pub code_there_and_back : (code : List ℕ) → first_broken (code_rules code) ≡ Ok tt →
+    (first_broken (code_line_rules (code_line_of code)) ≡ Ok tt) × (code_of (code_line_of code) ≡ code)
 code_there_and_back code e = let c = code-of code e in (of_code_line (code_line_of code) (line_of_code code c), code_back code c.long)
 
 -- an accepted line's code is accepted, and its line is that line
-pub code_line_there_and_back : (l : List ℕ) → first_broken (code_line_rules l) ≡ Accepted →
-    (first_broken (code_rules (code_of l)) ≡ Accepted) × (code_line_of (code_of l) ≡ l)
+pub code_line_there_and_back : (l : List ℕ) → first_broken (code_line_rules l) ≡ Ok tt →
+    (first_broken (code_rules (code_of l)) ≡ Ok tt) × (code_line_of (code_of l) ≡ l)
 code_line_there_and_back l e =
     let a = code-line-of l e in
     (of_code (code_of l) (code_of_line l a), code_line_back l a.long (a.first, a.second, a.third, a.fourth))
@@ -103,22 +102,22 @@ code_line_there_and_back l e =
 
 -- a code whose rules are kept is accepted, and leaves its line, which is accepted and leaves that code
 pub code_calls : (code : List ℕ) {out out' after after' : List ℕ} {a b : Answer} →
-    first_broken (code_rules code) ≡ Accepted → code_line_digits ≤ length out → code_digits ≤ length out' →
+    first_broken (code_rules code) ≡ Ok tt → code_line_digits ≤ length out → code_digits ≤ length out' →
     let line = take code_line_digits after in
     Writes (code_rules code) code_line_digits (code_line_of code) out a after →
     Writes (code_line_rules line) code_digits (code_of line) out' b after' →
-    (a ≡ Accepted) × (line ≡ code_line_of code) × (b ≡ Accepted) × (take code_digits after' ≡ code)
+    (a ≡ Ok tt) × (line ≡ code_line_of code) × (b ≡ Ok tt) × (take code_digits after' ≡ code)
 code_calls code e =
     let long = code_line_long code (code-of code e).long in
     calls code_rules code_line_rules code_line_of code_of code long (code_long (code_line_of code) long) (code_there_and_back code e) e
 
 -- a line whose rules are kept is accepted, and leaves its code, which is accepted and leaves that line
 pub code_line_calls : (l : List ℕ) {out out' after after' : List ℕ} {a b : Answer} →
-    first_broken (code_line_rules l) ≡ Accepted → code_digits ≤ length out → code_line_digits ≤ length out' →
+    first_broken (code_line_rules l) ≡ Ok tt → code_digits ≤ length out → code_line_digits ≤ length out' →
     let code = take code_digits after in
     Writes (code_line_rules l) code_digits (code_of l) out a after →
     Writes (code_rules code) code_line_digits (code_line_of code) out' b after' →
-    (a ≡ Accepted) × (code ≡ code_of l) × (b ≡ Accepted) × (take code_line_digits after' ≡ l)
+    (a ≡ Ok tt) × (code ≡ code_of l) × (b ≡ Ok tt) × (take code_line_digits after' ≡ l)
 code_line_calls l e =
     let long = code_long l (code-line-of l e).long in
     calls code_line_rules code_rules code_of code_line_of l long (code_line_long (code_of l) long) (code_line_there_and_back l e) e

@@ -1,10 +1,9 @@
 -- From the barcode to the line and back: the same digits, and both accepted. Assumes nothing.
-use Rattle.std.specs.Prelude.{◌≡◌, List, ℕ, ◌≤◌, length, get_or, take}
+use Rattle.std.specs.Prelude.{◌≡◌, List, ℕ, ◌≤◌, length, get_or, take, Ok}
 use Rattle.std.proofs.Common.{sym, subst}
 use Rattle.answer.specs.Rules.{first_broken}
 use Rattle.answer.specs.Output.{Writes}
-use Rattle.answer.specs.declared.Answer.{Answer}
-use Rattle.answer.specs.declared.Answer.TheVariants.{Accepted}
+use Rattle.answer.specs.Rules.{Answer}
 use Rattle.digits.specs.Digits.{places}
 use Rattle.digits.proofs.laws.Strings.{Digits, spelled_out, digits_append, digits_take, digits_drop}
 use Rattle.digits.specs.inner.Rows.{tab}
@@ -71,13 +70,13 @@ barcode_of_line l a =
     }
 
 -- an accepted barcode's line is accepted, and its barcode is that barcode
-pub barcode_there_and_back : (bar : List ℕ) → first_broken (barcode_rules bar) ≡ Accepted →
-    (first_broken (digit_line_rules (digit_line_of bar)) ≡ Accepted) × (barcode_of (digit_line_of bar) ≡ bar)
+pub barcode_there_and_back : (bar : List ℕ) → first_broken (barcode_rules bar) ≡ Ok tt →
+    (first_broken (digit_line_rules (digit_line_of bar)) ≡ Ok tt) × (barcode_of (digit_line_of bar) ≡ bar)
 barcode_there_and_back bar e = let b = barcode-of bar e in (of_line (digit_line_of bar) (line_of_barcode bar b), barcode_back bar b.long)
 
 -- an accepted line's barcode is accepted, and its line is that line
-pub line_there_and_back : (l : List ℕ) → first_broken (digit_line_rules l) ≡ Accepted →
-    (first_broken (barcode_rules (barcode_of l)) ≡ Accepted) × (digit_line_of (barcode_of l) ≡ l)
+pub line_there_and_back : (l : List ℕ) → first_broken (digit_line_rules l) ≡ Ok tt →
+    (first_broken (barcode_rules (barcode_of l)) ≡ Ok tt) × (digit_line_of (barcode_of l) ≡ l)
 line_there_and_back l e =
     let a = line_of l e in
     (of_barcode (barcode_of l) (barcode_of_line l a), line_back l a.long (a.first, a.second, a.third))
@@ -86,22 +85,22 @@ line_there_and_back l e =
 
 -- a barcode whose rules are kept is accepted, and leaves its line, which is accepted and leaves that barcode
 pub barcode_calls : (bar : List ℕ) {out out' after after' : List ℕ} {a b : Answer} →
-    first_broken (barcode_rules bar) ≡ Accepted → line_digits ≤ length out → barcode_digits ≤ length out' →
+    first_broken (barcode_rules bar) ≡ Ok tt → line_digits ≤ length out → barcode_digits ≤ length out' →
     let line = take line_digits after in
     Writes (barcode_rules bar) line_digits (digit_line_of bar) out a after →
     Writes (digit_line_rules line) barcode_digits (barcode_of line) out' b after' →
-    (a ≡ Accepted) × (line ≡ digit_line_of bar) × (b ≡ Accepted) × (take barcode_digits after' ≡ bar)
+    (a ≡ Ok tt) × (line ≡ digit_line_of bar) × (b ≡ Ok tt) × (take barcode_digits after' ≡ bar)
 barcode_calls bar e =
     let long = line_long bar (barcode-of bar e).long in
     calls barcode_rules digit_line_rules digit_line_of barcode_of bar long (barcode_long (digit_line_of bar) long) (barcode_there_and_back bar e) e
 
 -- a line whose rules are kept is accepted, and leaves its barcode, which is accepted and leaves that line
 pub line_calls : (l : List ℕ) {out out' after after' : List ℕ} {a b : Answer} →
-    first_broken (digit_line_rules l) ≡ Accepted → barcode_digits ≤ length out → line_digits ≤ length out' →
+    first_broken (digit_line_rules l) ≡ Ok tt → barcode_digits ≤ length out → line_digits ≤ length out' →
     let bar = take barcode_digits after in
     Writes (digit_line_rules l) barcode_digits (barcode_of l) out a after →
     Writes (barcode_rules bar) line_digits (digit_line_of bar) out' b after' →
-    (a ≡ Accepted) × (bar ≡ barcode_of l) × (b ≡ Accepted) × (take line_digits after' ≡ l)
+    (a ≡ Ok tt) × (bar ≡ barcode_of l) × (b ≡ Ok tt) × (take line_digits after' ≡ l)
 line_calls l e =
     let long = barcode_long l (line_of l e).long in
     calls digit_line_rules barcode_rules barcode_of digit_line_of l long (line_long (barcode_of l) long) (line_there_and_back l e) e

@@ -1,14 +1,13 @@
 -- What both families' laws need: a check digit is a digit, a part with its check digit, and calls whose conversions undo each other.
 -- Assumes nothing.
-use Rattle.std.specs.Prelude.{◌≡◌, ◌≢◌, not, List, [], ◌∷◌, ℕ, suc, ◌+◌, ◌-◌, ◌<◌, ◌≤◌, length, get_or, take, drop, set, T, eqb}
+use Rattle.std.specs.Prelude.{◌≡◌, ◌≢◌, not, List, [], ◌∷◌, ℕ, suc, ◌+◌, ◌-◌, ◌<◌, ◌≤◌, length, get_or, take, drop, set, T, eqb, Ok}
 use Rattle.std.proofs.Common.{◌∙◌, arith, length-set, length-take, length-drop, get_or-set_same, eqb→eq}
 use Rattle.std.proofs.Math.Nat.{add-sub_cancel_left}
 use Rattle.std.proofs.Math.Dec.{not_T}
 use Rattle.answer.specs.Rules.{Rule, first_broken}
 use Rattle.answer.specs.Output.{Writes}
 use Rattle.answer.proofs.laws.Frame.{is-accepted, left_new, handed_on}
-use Rattle.answer.specs.declared.Answer.{Answer}
-use Rattle.answer.specs.declared.Answer.TheVariants.{Accepted}
+use Rattle.answer.specs.Rules.{Answer}
 use Rattle.digits.specs.Digits.{digit_byte}
 use Rattle.digits.specs.Checks.{base, counts, check_digit}
 use Rattle.digits.proofs.laws.Strings.{Digit, Digits, digits_nil, digits_cons, part_set, part_get_or}
@@ -22,11 +21,11 @@ check_digits m bs = let s = check_small m bs in digits_cons (omega arith) digits
 -- a string whose rules are kept is converted; what it left is the other string, which is accepted by its rules and converted back to that string
 pub calls : (rules rules' : List ℕ → List Rule) (there back : List ℕ → List ℕ) {n n' : ℕ} (bs : List ℕ) {out out' after after' : List ℕ} {a b : Answer} →
     length (there bs) ≡ n → length (back (there bs)) ≡ n' →
-    (first_broken (rules' (there bs)) ≡ Accepted) × (back (there bs) ≡ bs) →
-    first_broken (rules bs) ≡ Accepted → n ≤ length out → n' ≤ length out' →
+    (first_broken (rules' (there bs)) ≡ Ok tt) × (back (there bs) ≡ bs) →
+    first_broken (rules bs) ≡ Ok tt → n ≤ length out → n' ≤ length out' →
     let new = take n after in
     Writes (rules bs) n (there bs) out a after → Writes (rules' new) n' (back new) out' b after' →
-    (a ≡ Accepted) × (new ≡ there bs) × (b ≡ Accepted) × (take n' after' ≡ bs)
+    (a ≡ Ok tt) × (new ≡ there bs) × (b ≡ Ok tt) × (take n' after' ≡ bs)
 calls rules rules' there back bs long long' t e room room' w w' =
     let ok = is-accepted e room w in
     let r = handed_on rules' back long t.0 long' room' (rw ok at w) w' in

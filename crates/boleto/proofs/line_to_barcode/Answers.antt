@@ -1,21 +1,26 @@
 -- `boleto::line_to_barcode` meets its contract. Assumes nothing.
-use Rattle.answer.proofs.laws.Frame.{Answers, answers, keeps, input_kept, has_room, writes}
-use Rattle.boleto.specs.Strings.{barcode_digits}
-use Rattle.boleto.specs.Rules.{digit_line_rules}
+use Rattle.std.proofs.Common.{sym, ◌∙◌}
+use Rattle.answer.proofs.laws.Leaving.{room_found, leaves_input, leaves_room, has_written}
 use Rattle.boleto.proofs.laws.Accepted.{line_of}
 use Rattle.boleto.proofs.laws.Conversions.{barcode_long}
 use Rattle.boleto.proofs.line_to_barcode.Goals as goal
 
+pub returns-in_err-check_digit_line : goal.returns-in_err-check_digit_line
+returns-in_err-check_digit_line c = leaves_input c.check_digit_line.ensures c.in_err-check_digit_line.was c.from_residual.ensures
+
+pub returns-in_err-room : goal.returns-in_err-room
+returns-in_err-room c =
+    leaves_room c.check_digit_line.ensures c.in_ok-check_digit_line.was c.room.ensures c.in_err-room.was c.from_residual-in_err-room.ensures
+
 pub write_barcode-requires : goal.write_barcode-requires
 write_barcode-requires c =
-    let e : Answers (digit_line_rules c.args.line.now) barcode_digits c.args.out.now c.and_then-answer.result = (answers _ _ c.check_digit_line.ensures c.room.ensures c.and_then-answer.ensures) in
-    record { line_len = (line_of _ (input_kept e c.in-Accepted.is)).long; barcode_digits_in_bounds = has_room e c.in-Accepted.is }
+    record {
+      line_len = (line_of _ (sym c.check_digit_line.ensures ∙ c.in_ok-check_digit_line.was)).long;
+      barcode_digits_in_bounds = room_found _ _ c.room.ensures c.in_ok-room.was;
+    }
 
-pub returns-in-Accepted : goal.returns-in-Accepted
-returns-in-Accepted c =
-    let e : Answers (digit_line_rules c.args.line.now) barcode_digits c.args.out.now c.and_then-answer.result = (answers _ _ c.check_digit_line.ensures c.room.ensures c.and_then-answer.ensures) in
-    let accepted = c.in-Accepted.is in
-    writes e accepted (barcode_long _ (line_of _ (input_kept e accepted)).long) c.write_barcode.ensures
-
-pub returns-in-Refused : goal.returns-in-Refused
-returns-in-Refused c = keeps (answers _ _ c.check_digit_line.ensures c.room.ensures c.and_then-answer.ensures) _ c.in-Refused.is
+pub returns : goal.returns
+returns c =
+    let kept = c.in_ok-check_digit_line.was in
+    has_written c.check_digit_line.ensures kept c.room.ensures c.in_ok-room.was
+    (barcode_long _ (line_of _ (sym c.check_digit_line.ensures ∙ kept)).long) c.write_barcode.ensures

@@ -1,6 +1,6 @@
 -- A record's rules in a state, as facts: its fields and the house rules are right, its fields read what the state counts, and the limit holds; and what
 -- a right record is read as. Assumes nothing.
-use Rattle.std.specs.Prelude.{◌≡◌, refl, Bool, true, false, cond, ◌&&◌, ℕ, suc, ◌+◌, ◌-◌, ◌≤◌, leb, ltb, eqb, length}
+use Rattle.std.specs.Prelude.{◌≡◌, refl, Bool, true, false, cond, ◌&&◌, ℕ, suc, ◌+◌, ◌-◌, ◌≤◌, leb, ltb, eqb, length, None, Option, Some}
 use Rattle.std.proofs.Math.Path.{sym}
 use Rattle.std.proofs.Common.{ap, subst, ◌∙◌, arith, lit≤}
 use mathlib.Core.List.{List, [], ◌∷◌, ◌++◌}
@@ -12,8 +12,6 @@ use Rattle.digits.specs.Digits.{all_digits, digit_byte, place, places}
 use Rattle.digits.specs.Numbers.{number_of}
 use Rattle.digits.proofs.laws.Strings.{one_place, all_leading, part_get_or}
 use Rattle.digits.proofs.laws.Numerals.{given}
-use Rattle.digits.specs.declared.spelling.Number.{Number}
-use Rattle.digits.specs.declared.spelling.Number.TheVariants.{Is, Not}
 use Rattle.calendar.specs.Calendar.{number_fits}
 use Rattle.layout.specs.Field.{Field, part}
 use Rattle.layout.specs.Table.{line, type_place, fields_of, record_bytes, bank_field, batch_field, number_field, segment_field, segment_fields, segment_place, batch_records, batch_sum, file_batches, file_records}
@@ -29,7 +27,6 @@ use Rattle.layout.specs.declared.shapes.LineType.TheVariants.{FileFirst, BatchFi
 use Rattle.layout.specs.declared.pairs.Batch.{Batch}
 use Rattle.checker.specs.Totals.{batch_count, record_count, payment_count, cent_sum, payments_of}
 use Rattle.checker.specs.Line.{bank, batch_number, ordinal, most_payments, header_batch, trailer_batch, reads, within, behind, between, house_rules, rules_of_type, rules_as, line_is}
-use Rattle.checker.specs.declared.order.Reading.TheVariants.{Line}
 use Rattle.checker.specs.declared.Checker.{Checker}
 use Rattle.checker.proofs.laws.Payments.{row}
 use Rattle.checker.specs.inner.Following.{Stands}
@@ -53,9 +50,9 @@ record Own (r : Record) (s : Checker) (rec : List ℕ) : Type 0 where
 
 -- ---- a rule that a field reads a number
 
-is_number : (k : ℕ) (m : Number) → number_fits (λ n. eqb n k) m ≡ true → m ≡ Is k
-is_number k (Is n) e = ap Is (eqb-true n k e)
-is_number k Not e = never e
+is_number : (k : ℕ) (m : Option ℕ) → number_fits (λ n. eqb n k) m ≡ true → m ≡ Some k
+is_number k (Some n) e = ap Some (eqb-true n k e)
+is_number k None e = never e
 
 -- ---- rules of some fields, and of all
 
@@ -112,7 +109,7 @@ not_z {r = r} d rec k g e =
     never (sym (row g).no_z ∙ eq-eqb _ _ (sym letter ∙ e))
 
 pub read_right : (s : Checker) (rec : List ℕ) {r : Record} → Follows s.dir s.batch s.phase r → AllKept (rules_of (fields_of r) s.dir rec)
-    → line_is s rec ≡ Line r
+    → line_is s rec ≡ Some r
 read_right s rec {r} f k =
     read_by s rec f (type_at r s.dir rec k)
     (λ e. letter_at SegmentZ s.dir rec (subst (λ (x : Record). AllKept (rules_of (fields_of x) s.dir rec)) e k) refl refl)
@@ -122,18 +119,18 @@ read_right s rec {r} f k =
 
 module _ (s : Checker) (rec : List ℕ) where
   -- the rule that a field reads a number; what reads one is digits
-  is_read : (f : Field) (k : ℕ) → number_fits (λ n. eqb n k) (number_of (part f rec)) ≡ true → number_of (part f rec) ≡ Is k
+  is_read : (f : Field) (k : ℕ) → number_fits (λ n. eqb n k) (number_of (part f rec)) ≡ true → number_of (part f rec) ≡ Some k
   is_read f k e = is_number k (number_of (part f rec)) e
 
-  read_is : (f : Field) (k : ℕ) → number_of (part f rec) ≡ Is k → number_fits (λ n. eqb n k) (number_of (part f rec)) ≡ true
+  read_is : (f : Field) (k : ℕ) → number_of (part f rec) ≡ Some k → number_fits (λ n. eqb n k) (number_of (part f rec)) ≡ true
   read_is f k e = rw e (eq-eqb k k refl)
 
   -- bank and batch number, in front of other rules
-  ahead : (k : ℕ) (rs : List Rule) → number_of (part bank_field rec) ≡ Is s.bank → number_of (part batch_field rec) ≡ Is k → AllKept rs
+  ahead : (k : ℕ) (rs : List Rule) → number_of (part bank_field rec) ≡ Some s.bank → number_of (part batch_field rec) ≡ Some k → AllKept rs
       → AllKept (bank s rec ∷ batch_number k rec ∷ rs)
   ahead k rs e h kept = more_kept _ _ (read_is bank_field _ e) (more_kept _ _ (read_is batch_field _ h) kept)
 
-  digits_in : (f : Field) (k : ℕ) → number_of (part f rec) ≡ Is k → all_digits (part f rec) ≡ true
+  digits_in : (f : Field) (k : ℕ) → number_of (part f rec) ≡ Some k → all_digits (part f rec) ≡ true
   digits_in f k e = eq-eqb _ _ (all_leading (part f rec) (given (part f rec) k e).digits)
 
   line_kept : (r : Record) → length rec ≡ record_bytes → place type_place rec ≡ type_of r → all_digits (part bank_field rec) ≡ true

@@ -1,5 +1,5 @@
 -- What a sound state leaves room for: no sum wraps. Assumes nothing.
-use Rattle.std.specs.Prelude.{◌≡◌, refl, Bool, true, ◌&&◌, List, ℕ, ◌*◌, ◌^◌, ◌≤◌, leb, ltb, length}
+use Rattle.std.specs.Prelude.{◌≡◌, refl, Bool, true, ◌&&◌, List, ℕ, ◌*◌, ◌^◌, ◌≤◌, leb, ltb, length, None, Option, Some}
 use Rattle.std.proofs.Common.{arith, leb-true, ltb-true, le-leb, lt-ltb, length-take}
 use Rattle.answer.specs.Sums.{capped}
 use Rattle.answer.proofs.laws.Sums.{fits}
@@ -11,7 +11,7 @@ use Rattle.layout.specs.declared.Record.{Record}
 use Rattle.layout.specs.declared.shapes.LineType.{LineType}
 use Rattle.layout.specs.declared.shapes.LineType.TheVariants.{FileFirst, BatchFirst, Detail, BatchLast, FileLast}
 use Rattle.layout.specs.declared.shapes.Amount.{Amount}
-use Rattle.layout.specs.declared.shapes.Amount.TheVariants.{NoAmount, AmountOfA, AmountOfJ, AmountOfO}
+use Rattle.layout.specs.declared.shapes.Amount.TheVariants.{OfA, OfJ, OfO}
 use Rattle.checker.specs.Totals.{add, opens, cents_in, counts, payments_of, amount_digits, batch_count, cent_sum, payment_count, record_count}
 use Rattle.checker.specs.Machine.{sound}
 use Rattle.checker.specs.inner.Steps.{Bounded, Room}
@@ -90,11 +90,11 @@ record OneAmount (fs : List Field) (rec : List ℕ) : Type 0 where
   one : length fs ≤ 1
   below : cents_in fs rec ≤ length fs * 10 ^ amount_digits
 
-one_amount : (a : Amount) (rec : List ℕ) → OneAmount (amount_field a) rec
-one_amount NoAmount rec = omega arith
-one_amount AmountOfA rec = omega (arith, value_lt amount_digits (part credit_amount rec) (rw length-take (omega arith)))
-one_amount AmountOfJ rec = omega (arith, value_lt amount_digits (part boleto_amount rec) (rw length-take (omega arith)))
-one_amount AmountOfO rec = omega (arith, value_lt amount_digits (part collection_amount rec) (rw length-take (omega arith)))
+one_amount : (a : Option Amount) (rec : List ℕ) → OneAmount (amount_field a) rec
+one_amount None rec = omega arith
+one_amount (Some OfA) rec = omega (arith, value_lt amount_digits (part credit_amount rec) (rw length-take (omega arith)))
+one_amount (Some OfJ) rec = omega (arith, value_lt amount_digits (part boleto_amount rec) (rw length-take (omega arith)))
+one_amount (Some OfO) rec = omega (arith, value_lt amount_digits (part collection_amount rec) (rw length-take (omega arith)))
 
 pub small : (r : Record) (rec : List ℕ) → Small r rec
 small r rec =

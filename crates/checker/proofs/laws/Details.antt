@@ -1,11 +1,10 @@
 -- What is asked of a line by its record, beside its own fields: numbers that the state counts, and a limit; and what all details share. Assumes nothing.
-use Rattle.std.specs.Prelude.{◌≡◌, refl, Bool, true, false, not, cond, ◌&&◌, ◌||◌, ◌↔◌, List, [], ◌∷◌, ◌++◌, ℕ, suc, ◌+◌, T, leb}
+use Rattle.std.specs.Prelude.{◌≡◌, refl, Bool, true, false, not, cond, ◌&&◌, ◌||◌, ◌↔◌, List, [], ◌∷◌, ◌++◌, ℕ, suc, ◌+◌, T, leb, Some}
 use Rattle.std.proofs.Common.{ap, ◌∙◌}
 use Rattle.std.proofs.Math.Path.{subst⁻¹}
 use Rattle.answer.proofs.laws.Order.{never}
 use Rattle.digits.specs.Digits.{digit_byte}
 use Rattle.digits.specs.Numbers.{number_of}
-use Rattle.digits.specs.declared.spelling.Number.TheVariants.{Is}
 use Rattle.layout.specs.Field.{Field, part}
 use Rattle.layout.specs.Records.{shape_of, is_detail, type_of, letter_of, after}
 use Rattle.layout.proofs.laws.Records.{each, detail_line}
@@ -44,7 +43,7 @@ asked r s = asked_by (shape_of r).line s
 
 unfoldable pub AllRead : Asked → List ℕ → Type 0
 AllRead [] rec = Unit {0}
-AllRead (a ∷ as') rec = (number_of (part a.0 rec) ≡ Is a.1) × AllRead as' rec
+AllRead (a ∷ as') rec = (number_of (part a.0 rec) ≡ Some a.1) × AllRead as' rec
 
 -- ---- the fields of all lines, and of all details
 

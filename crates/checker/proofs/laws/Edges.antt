@@ -1,5 +1,5 @@
 -- Which record a line may be, by phase, direction and kind of batch: each edge of the machine, both ways. Assumes nothing.
-use Rattle.std.specs.Prelude.{◌≡◌, refl, Bool, true, false, not, cond, ◌&&◌, ◌||◌, ℕ, eqb, take, drop}
+use Rattle.std.specs.Prelude.{◌≡◌, refl, Bool, true, false, not, cond, ◌&&◌, ◌||◌, ℕ, eqb, take, drop, Option, Some}
 use Rattle.std.proofs.Common.{sym, ap, subst, ◌∙◌, arith, eqb-true, eq-eqb}
 use Rattle.std.proofs.Math.Bool.{and-false}
 use mathlib.Core.List.{List, [], ◌∷◌, ◌++◌, Memᴰ}
@@ -16,8 +16,6 @@ use Rattle.layout.specs.declared.pairs.Batch.{Batch}
 use Rattle.checker.specs.Order.{payment, record_at, follows, ended, optional, suits, read_as}
 use Rattle.checker.specs.Line.{line_is, found}
 use Rattle.checker.specs.Machine.{next}
-use Rattle.checker.specs.declared.order.Reading.{Reading}
-use Rattle.checker.specs.declared.order.Reading.TheVariants.{Line}
 use Rattle.layout.specs.declared.shapes.Phase.{Phase}
 use Rattle.layout.specs.declared.shapes.Phase.TheVariants.{Start, Headed, Opened, Within, Paid, BehindZ, Closed, Ended}
 use Rattle.checker.specs.declared.Checker.{Checker}
@@ -91,16 +89,16 @@ each_follows Closed d b = (next_batch, (ends, tt))
 each_follows Ended d b = tt
 
 -- a line is read as one of them, with that record's type and, where it may be left out, its letter
-read_among : (type segment : ℕ) (rs : List Record) {r : Record} → read_as type segment rs ≡ Line r → Among r rs × (suits type segment r ≡ true)
+read_among : (type segment : ℕ) (rs : List Record) {r : Record} → read_as type segment rs ≡ Some r → Among r rs × (suits type segment r ≡ true)
 read_among type segment [] e = never (ap found e)
 read_among type segment (x ∷ rs) {r} e = go (suits type segment x) refl (read_among type segment rs) e
   where
-    go : (b : Bool) → suits type segment x ≡ b → (read_as type segment rs ≡ Line r → Among r rs × (suits type segment r ≡ true))
-        → cond b (Line x) (read_as type segment rs) ≡ Line r → Among r (x ∷ rs) × (suits type segment r ≡ true)
+    go : (b : Bool) → suits type segment x ≡ b → (read_as type segment rs ≡ Some r → Among r rs × (suits type segment r ≡ true))
+        → cond b (Some x) (read_as type segment rs) ≡ Some r → Among r (x ∷ rs) × (suits type segment r ≡ true)
     go true q later e = let same : r ≡ x = cc in (Memᴰ.head {x = x} same, subst (λ (y : Record). suits type segment y ≡ true) (sym same) q)
     go false q later e = let h = later e in (Memᴰ.tail h.0, h.1)
 
-module _ (s : Checker) (rec : List ℕ) {r : Record} (e : line_is s rec ≡ Line r) where
+module _ (s : Checker) (rec : List ℕ) {r : Record} (e : line_is s rec ≡ Some r) where
   read_so : Among r (follows s.phase s.dir s.batch) × (suits (place type_place rec) (place segment_place rec) r ≡ true)
   read_so = read_among (place type_place rec) (place segment_place rec) (follows s.phase s.dir s.batch) e
 
@@ -117,7 +115,7 @@ module _ (s : Checker) (rec : List ℕ) {r : Record} (e : line_is s rec ≡ Line
   pub not_ended : ended s.phase ≡ false
   not_ended = go s.phase e
     where
-      go : (p : Phase) → read_as (place type_place rec) (place segment_place rec) (follows p s.dir s.batch) ≡ Line r → ended p ≡ false
+      go : (p : Phase) → read_as (place type_place rec) (place segment_place rec) (follows p s.dir s.batch) ≡ Some r → ended p ≡ false
       go Start e = refl
       go Headed e = refl
       go Opened e = refl
@@ -130,17 +128,17 @@ module _ (s : Checker) (rec : List ℕ) {r : Record} (e : line_is s rec ≡ Line
 -- ---- and what follows is read so, by its type and its letter
 
 -- where a Z may stand, another letter or another type is none
-no_z : (type segment : ℕ) (later : Reading) → (segment ≡ 90 → type ≡ type_of SegmentZ → ⊥) → cond (suits type segment SegmentZ) (Line SegmentZ) later ≡ later
+no_z : (type segment : ℕ) (later : Option Record) → (segment ≡ 90 → type ≡ type_of SegmentZ → ⊥) → cond (suits type segment SegmentZ) (Some SegmentZ) later ≡ later
 no_z type segment later n = go (eqb segment 90) (eqb type (type_of SegmentZ)) refl refl
   where
-    go : (a b : Bool) → eqb segment 90 ≡ a → eqb type (type_of SegmentZ) ≡ b → cond (a && b) (Line SegmentZ) later ≡ later
+    go : (a b : Bool) → eqb segment 90 ≡ a → eqb type (type_of SegmentZ) ≡ b → cond (a && b) (Some SegmentZ) later ≡ later
     go true true p q = absurd (n (eqb-true _ _ p) (eqb-true _ _ q))
     go true false p q = refl
     go false b p q = refl
 
 module _ (type segment : ℕ) where
   -- a record of a payment is read by its type alone
-  reads_at : {b : Batch} {n : ℕ} {r : Record} (later : List Record) → Stands b n r → type ≡ type_of r → read_as type segment (r ∷ later) ≡ Line r
+  reads_at : {b : Batch} {n : ℕ} {r : Record} (later : List Record) → Stands b n r → type ≡ type_of r → read_as type segment (r ∷ later) ≡ Some r
   reads_at {r = r} later g e = rw ((row g).needed, eq-eqb type (type_of r) e)
 
   -- a line that is no detail is none of them
@@ -151,7 +149,7 @@ module _ (type segment : ℕ) where
       go [] q = refl
       go (r ∷ rs) q = rw ((row {b = b} {n = n} {r = r} (record { is = ap (take 1) q })).type, e, and-false)
 
-  closes_last : (b : Batch) → type ≡ type_of BatchTrailer → read_as type segment (record_at 0 b ++ BatchTrailer ∷ []) ≡ Line BatchTrailer
+  closes_last : (b : Batch) → type ≡ type_of BatchTrailer → read_as type segment (record_at 0 b ++ BatchTrailer ∷ []) ≡ Some BatchTrailer
   closes_last b e = passed_by b 0 (BatchTrailer ∷ []) (rw e) ∙ rw e
 
   -- behind a payment, what is no Z is read as if none could stand there
@@ -161,7 +159,7 @@ module _ (type segment : ℕ) where
   no_z_there Return b n = no_z type segment _ n
 
   reads_as : {p : Phase} (d : Direction) (b : Batch) {r : Record} → Follows d b p r → type ≡ type_of r → (r ≡ SegmentZ → segment ≡ 90)
-      → (Stands b 0 r → segment ≡ 90 → ⊥) → read_as type segment (follows p d b) ≡ Line r
+      → (Stands b 0 r → segment ≡ 90 → ⊥) → read_as type segment (follows p d b) ≡ Some r
   reads_as d b heads e z f = rw e
   reads_as d b first_batch e z f = rw e
   reads_as d b (pays first_payment g) e z f = rw g.is (reads_at [] g e)
@@ -176,7 +174,7 @@ module _ (type segment : ℕ) where
 
 pub read_by : (s : Checker) (rec : List ℕ) {r : Record} → Follows s.dir s.batch s.phase r
     → place type_place rec ≡ type_of r → (r ≡ SegmentZ → place segment_place rec ≡ 90) → (Stands s.batch 0 r → place segment_place rec ≡ 90 → ⊥)
-    → line_is s rec ≡ Line r
+    → line_is s rec ≡ Some r
 read_by s rec f e z g = reads_as _ _ s.dir s.batch f e z g
 
 -- ---- the records of a payment

@@ -1,11 +1,10 @@
 -- What every line keeps, by phase: bounds on what is counted, from which the state is sound. Assumes nothing.
-use Rattle.std.specs.Prelude.{◌≡◌, Bool, true, false, cond, List, ℕ, suc, ◌+◌, ◌-◌, ◌*◌, ◌^◌, ◌≤◌, ◌<◌, ltb, length}
+use Rattle.std.specs.Prelude.{◌≡◌, Bool, true, false, cond, List, ℕ, suc, ◌+◌, ◌-◌, ◌*◌, ◌^◌, ◌≤◌, ◌<◌, ltb, length, Err, Ok}
 use Rattle.std.proofs.Math.Path.{refl}
 use native.Mathlib.Omega.{arith}
 use Rattle.std.proofs.Common.{length-take}
 use Rattle.answer.specs.Limits.{file_cents}
-use Rattle.answer.specs.declared.Answer.{Answer}
-use Rattle.answer.specs.declared.Answer.TheVariants.{Accepted, Refused}
+use Rattle.answer.specs.Rules.{Answer}
 use Rattle.layout.specs.Table.{record_bytes}
 use Rattle.layout.specs.declared.Direction.{Direction}
 use Rattle.layout.specs.declared.Record.{Record}
@@ -132,10 +131,10 @@ pub step_keeps : (s : Checker) (line : List ℕ) → Kept s → Kept (step_of s 
 step_keeps s line h = go (step_of s line).answer refl
   where
     go : (a : Answer) → (step_of s line).answer ≡ a → Kept (step_of s line).state
-    go Accepted e =
+    go (Ok tt) e =
         let d = accepted_moves s line e in
         let rec = record_in line in
         let long : length rec ≡ record_bytes = rw length-take (omega (arith, d.long)) in
         let b = record_fits s rec d.by long (type_read s rec d.read) d.rules_kept in
         rw d.moves (kept_by s rec (follows_by s rec d.read) b.limit h)
-    go (Refused r) e = rw (refused_leaves s line r e) h
+    go (Err r) e = rw (refused_leaves s line r e) h

@@ -1,10 +1,9 @@
 -- Every rule of a line names one of the paper's numbers, 1 to 23, 26, 52, 53 or 55, and no line; of one record alone 1 to 15. Assumes nothing.
-use Rattle.std.specs.Prelude.{◌≡◌, refl, Bool, ◌&&◌, ◌||◌, List, [], ◌∷◌, ◌++◌, ℕ, ◌≤◌, T, leb}
+use Rattle.std.specs.Prelude.{◌≡◌, refl, Bool, ◌&&◌, ◌||◌, List, [], ◌∷◌, ◌++◌, ℕ, ◌≤◌, T, leb, Err, None, Option, Some}
 use Rattle.std.proofs.Common.{subst, arith, le-leb, leb→le}
 use Rattle.answer.specs.Rules.{Rule, rule, no_line, Broken, first_broken}
 use Rattle.answer.proofs.laws.Order.{refused_broken}
 use Rattle.answer.specs.declared.Refusal.{Refusal}
-use Rattle.answer.specs.declared.Answer.TheVariants.{Refused}
 use Rattle.digits.proofs.laws.Tests.{both}
 use Rattle.layout.specs.Pairs.{among as oneAmong}
 use Rattle.layout.specs.Field.{Kind, N, NOrBlank, Id, T as Text, F, D, Time, K, O, Zeros, Exact, OneOf, Service, Form, Barcode, Code, RecordType, Segment, Field}
@@ -18,10 +17,8 @@ use Rattle.layout.specs.declared.Record.{Record}
 use Rattle.layout.specs.declared.shapes.LineType.{LineType}
 use Rattle.layout.specs.declared.shapes.LineType.TheVariants.{FileFirst, BatchFirst, Detail, BatchLast, FileLast}
 use Rattle.layout.specs.declared.shapes.House.{House}
-use Rattle.layout.specs.declared.shapes.House.TheVariants.{NoRules, RulesOfJ, OneId, ThreeIds, RulesOfO}
+use Rattle.layout.specs.declared.shapes.House.TheVariants.{RulesOfJ, OneId, ThreeIds, RulesOfO}
 use Rattle.checker.specs.Line.{behind, between, house_by, boleto_rules, collection_rules, rules_of_type, rules_as, reading_rules, line_is, type_rules, line_rules, rules_of_line, record_in}
-use Rattle.checker.specs.declared.order.Reading.{Reading}
-use Rattle.checker.specs.declared.order.Reading.TheVariants.{Line, Nothing}
 use Rattle.checker.specs.declared.Checker.{Checker}
 
 -- the lowest and the highest number that a line is refused with, but for those that came behind document 01
@@ -117,13 +114,13 @@ among_fields (f ∷ fs) d rec = join (kind f.kind (part_of f d rec)) (among_fiel
 fields : (fs : List Field) (d : Direction) (rec : List ℕ) → Listed byte_number numbered (rules_of fs d rec)
 fields fs d rec = wider of_line (among_fields fs d rec)
 
-house : (h : House) (rec : List ℕ) → Listed byte_number numbered (house_by h rec)
+house : (h : Option House) (rec : List ℕ) → Listed byte_number numbered (house_by h rec)
 unfolding boleto_rules collection_rules
-house NoRules rec = none
-house RulesOfJ rec = more tt (more tt (more tt (one tt)))
-house OneId rec = one tt
-house ThreeIds rec = more tt (more tt (one tt))
-house RulesOfO rec = more tt (more tt (one tt))
+house None rec = none
+house (Some RulesOfJ) rec = more tt (more tt (more tt (one tt)))
+house (Some OneId) rec = one tt
+house (Some ThreeIds) rec = more tt (more tt (one tt))
+house (Some RulesOfO) rec = more tt (more tt (one tt))
 
 of_type : (t : LineType) (r : Record) (s : Checker) (rec : List ℕ) → Listed byte_number numbered (rules_of_type t r s rec)
 unfolding rules_of_type
@@ -148,9 +145,9 @@ read : (r : Record) (s : Checker) (rec : List ℕ) → Listed byte_number number
 unfolding rules_as
 read r s rec = join (of_type (shape_of r).line r s rec) (house (shape_of r).house rec)
 
-reading : (d : Reading) (s : Checker) (rec : List ℕ) → Listed byte_number numbered (reading_rules d s rec)
-reading (Line r) s rec = read r s rec
-reading Nothing s rec = none
+reading : (d : Option Record) (s : Checker) (rec : List ℕ) → Listed byte_number numbered (reading_rules d s rec)
+reading (Some r) s rec = read r s rec
+reading None s rec = none
 
 -- those of a whole line before the file trailer, and all
 pub whole_listed : (s : Checker) (line : List ℕ) → Listed byte_number numbered (line_rules s line)
@@ -189,7 +186,7 @@ pub broken_listed : {low : ℕ} {among : ℕ → Bool} {rs : List Rule} {r : Ref
 broken_listed {low} {among} a b = inside b.earlier _ b.later (subst (Listed low among) b.are a)
 
 -- one record alone is refused with 1 to 15, and so never with a house rule's number
-pub alone_number : (r : Record) (d : Direction) (rec : List ℕ) (x : Refusal) → first_broken (record_rules r d rec) ≡ Refused x
+pub alone_number : (r : Record) (d : Direction) (rec : List ℕ) (x : Refusal) → first_broken (record_rules r d rec) ≡ Err x
     → (first_number ≤ x.number) × (x.number ≤ last_of_fields)
 alone_number r d rec x e =
     let t = broken_listed (alone_listed r d rec) (refused_broken (record_rules r d rec) x e) in

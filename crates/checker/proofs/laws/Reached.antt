@@ -1,8 +1,7 @@
 -- Every state that calls produce is sound: none is answered by 51, and no sum of a line leaves 64 bits. Assumes nothing.
-use Rattle.std.specs.Prelude.{◌≡◌, true, List, [], ◌∷◌, ℕ, ◌≤◌, T}
+use Rattle.std.specs.Prelude.{◌≡◌, true, List, [], ◌∷◌, ℕ, ◌≤◌, T, Err}
 use Rattle.answer.specs.Rules.{first_broken}
 use Rattle.answer.specs.declared.Refusal.{Refusal}
-use Rattle.answer.specs.declared.Answer.TheVariants.{Refused}
 use Rattle.layout.specs.declared.Record.{Record}
 use Rattle.checker.specs.Totals.{counts}
 use Rattle.checker.specs.Line.{record_in, rules_of_line}
@@ -34,7 +33,7 @@ module _ {s : Checker} (c : Reached s) where
   never_guarded line = by_rules s line (reached c)
 
   -- and so a refusal's number is one of the table: 1 to 23, 26, 52, 53 or 55
-  pub line_number : (line : List ℕ) (r : Refusal) → (step_of s line).answer ≡ Refused r → (1 ≤ r.number) × T (numbered r.number)
+  pub line_number : (line : List ℕ) (r : Refusal) → (step_of s line).answer ≡ Err r → (1 ≤ r.number) × T (numbered r.number)
   line_number line r e =
       let t = broken_listed (line_listed s line) ((line_refused s line (reached c) r).0 e).broken in
       (t.low, t.is_among)

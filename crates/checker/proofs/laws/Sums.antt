@@ -1,9 +1,9 @@
 -- Sums of totals, and what each line adds to them. Assumes nothing.
-use Rattle.std.specs.Prelude.{◌≡◌, refl, Bool, true, false, not, List, ℕ, ◌+◌, length}
+use Rattle.std.specs.Prelude.{◌≡◌, refl, Bool, true, false, not, List, ℕ, ◌+◌, length, None, Option, Some}
 use Rattle.std.proofs.Common.{arith}
 use Rattle.layout.specs.declared.Record.{Record}
 use Rattle.layout.specs.declared.shapes.Amount.{Amount}
-use Rattle.layout.specs.declared.shapes.Amount.TheVariants.{NoAmount, AmountOfA, AmountOfJ, AmountOfO}
+use Rattle.layout.specs.declared.shapes.Amount.TheVariants.{OfA, OfJ, OfO}
 use Rattle.layout.specs.declared.shapes.LineType.{LineType}
 use Rattle.layout.specs.declared.shapes.LineType.TheVariants.{FileFirst, BatchFirst, Detail, BatchLast, FileLast}
 use Rattle.checker.specs.Totals.{tally, live, withdrawn, totals, none, add, live_payments, live_cents, withdrawn_payments, withdrawn_cents, payment_count, cent_sum, cents_in, withdraws, only, tallied, counts, payments_of, cents_of}
@@ -56,26 +56,26 @@ pub record InAll (payments cents : ℕ) (t : Totals) : Type 0 where
 pub together : (r : Record) (rec : List ℕ) → InAll (payments_of r) (cents_of r rec) (counts r rec)
 together r rec = let p = go (shape_of r).amount (withdraws rec) in record { payments_are = p.0; cents_are = p.1 }
   where
-    go : (a : Amount) (w : Bool) → let fs = amount_field a in
+    go : (a : Option Amount) (w : Bool) → let fs = amount_field a in
         ((tallied (not w) fs rec).payments + (tallied w fs rec).payments ≡ length fs) × ((tallied (not w) fs rec).cents.0 + (tallied w fs rec).cents.0 ≡ cents_in fs rec)
-    go NoAmount w = (refl, refl)
-    go AmountOfA w = both_parts w (tally 1 (value (part credit_amount rec)))
-    go AmountOfJ w = both_parts w (tally 1 (value (part boleto_amount rec)))
-    go AmountOfO w = both_parts w (tally 1 (value (part collection_amount rec)))
+    go None w = (refl, refl)
+    go (Some OfA) w = both_parts w (tally 1 (value (part credit_amount rec)))
+    go (Some OfJ) w = both_parts w (tally 1 (value (part boleto_amount rec)))
+    go (Some OfO) w = both_parts w (tally 1 (value (part collection_amount rec)))
 
 -- the payment that is begun, whatever its movement; and it, or none
-pub all_tallied : (a : Amount) (rec : List ℕ) → tallied true (amount_field a) rec ≡ tally (length (amount_field a)) (cents_in (amount_field a) rec)
-all_tallied NoAmount rec = refl
-all_tallied AmountOfA rec = refl
-all_tallied AmountOfJ rec = refl
-all_tallied AmountOfO rec = refl
+pub all_tallied : (a : Option Amount) (rec : List ℕ) → tallied true (amount_field a) rec ≡ tally (length (amount_field a)) (cents_in (amount_field a) rec)
+all_tallied None rec = refl
+all_tallied (Some OfA) rec = refl
+all_tallied (Some OfJ) rec = refl
+all_tallied (Some OfO) rec = refl
 
-pub only_tallied : (such : Bool) (a : Amount) (rec : List ℕ) → only such (tallied true (amount_field a) rec) ≡ tallied such (amount_field a) rec
-only_tallied true NoAmount rec = refl
-only_tallied false NoAmount rec = refl
-only_tallied such AmountOfA rec = refl
-only_tallied such AmountOfJ rec = refl
-only_tallied such AmountOfO rec = refl
+pub only_tallied : (such : Bool) (a : Option Amount) (rec : List ℕ) → only such (tallied true (amount_field a) rec) ≡ tallied such (amount_field a) rec
+only_tallied true None rec = refl
+only_tallied false None rec = refl
+only_tallied such (Some OfA) rec = refl
+only_tallied such (Some OfJ) rec = refl
+only_tallied such (Some OfO) rec = refl
 
 -- what a state counts in all
 abbrev pub counted : Checker → Totals

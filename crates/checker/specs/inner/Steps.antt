@@ -1,7 +1,8 @@
 -- What private steps leave, for their contracts. Assumes nothing.
-use Rattle.std.specs.Prelude.{Bool, true, false, not, List, [], ◌∷◌, ◌++◌, leb, eqb, length, ℕ, suc, ◌+◌, ◌*◌, ◌≤◌, ◌<◌, ◌^◌}
+use Rattle.std.specs.Prelude.{Bool, true, false, not, List, [], ◌∷◌, ◌++◌, leb, eqb, length, ℕ, suc, ◌+◌, ◌*◌, ◌≤◌, ◌<◌, ◌^◌, None, Option, Result, Ok, Err}
 use Rattle.answer.specs.Limits.{file_cents}
-use Rattle.answer.specs.Rules.{Rule, rule}
+use Rattle.answer.specs.Rules.{Rule, rule, Answer}
+use Rattle.answer.specs.declared.Refusal.{Refusal}
 use Rattle.digits.specs.Numbers.{number_of}
 use Rattle.calendar.specs.Calendar.{number_fits}
 use Rattle.layout.specs.Table.{number_field, segment_fields, segment_place, record_bytes}
@@ -12,10 +13,8 @@ use Rattle.layout.specs.declared.Record.{Record}
 use Rattle.layout.specs.declared.Record.TheVariants.{FileHeader, BatchHeader, BatchTrailer, FileTrailer}
 use Rattle.checker.specs.Order.{read_as, ended}
 use Rattle.checker.specs.Totals.{batch_count, record_count, payment_count, cent_sum, payments_of, add}
-use Rattle.checker.specs.Line.{reads, bank, batch_number, ordinal, most_batches, most_payments, line_bytes, carriage_return, line_feed, record_in, ends_with}
-use Rattle.checker.specs.Machine.{batch_records_most, batch_cents_most}
-use Rattle.checker.specs.declared.order.Reading.{Reading}
-use Rattle.checker.specs.declared.order.Reading.TheVariants.{Nothing}
+use Rattle.checker.specs.Line.{reads, bank, batch_number, ordinal, most_batches, most_payments, line_bytes, carriage_return, line_feed, record_in, ends_with, line_is}
+use Rattle.checker.specs.Machine.{batch_records_most, batch_cents_most, moved}
 use Rattle.layout.specs.declared.shapes.Phase.{Phase}
 use Rattle.layout.specs.declared.shapes.Phase.TheVariants.{Start, Headed, Opened, Within, Paid, BehindZ, Closed, Ended}
 use Rattle.checker.specs.declared.totals.Tally.{Tally}
@@ -27,15 +26,15 @@ is_return Remittance = false
 is_return Return = true
 
 -- what a line is read as that is no detail
-abbrev pub end_as : Phase → ℕ → Reading
+abbrev pub end_as : Phase → ℕ → Option Record
 end_as Start type = read_as type 0 (FileHeader ∷ [])
 end_as Headed type = read_as type 0 (BatchHeader ∷ [])
-end_as Opened type = Nothing
-end_as (Within n) type = Nothing
+end_as Opened type = None
+end_as (Within n) type = None
 end_as Paid type = read_as type 0 (BatchTrailer ∷ [])
 end_as BehindZ type = read_as type 0 (BatchTrailer ∷ [])
 end_as Closed type = read_as type 0 (BatchHeader ∷ FileTrailer ∷ [])
-end_as Ended type = Nothing
+end_as Ended type = None
 
 -- the rule that digits give the number k
 abbrev pub digits_read : ℕ → ℕ → ℕ → List ℕ → Rule
@@ -50,6 +49,16 @@ front_rules s line =
     ∷ ends_with (suc record_bytes) carriage_return line
     ∷ ends_with line_bytes line_feed line
     ∷ []
+
+-- the answer in what is handed on, or refused
+abbrev pub answer_of : {A : Type 0} → Result A Refusal → Answer
+answer_of (Ok a) = Ok tt
+answer_of (Err r) = Err r
+
+-- the state behind a line that is read, or the refusal
+abbrev pub behind_by : Answer → Checker → List ℕ → Result Checker Refusal
+behind_by (Ok tt) s rec = Ok (moved (line_is s rec) s rec)
+behind_by (Err r) s rec = Err r
 
 -- the rules of a detail up to 20
 abbrev pub detail_head : Record → Checker → List ℕ → List Rule

@@ -1,22 +1,14 @@
--- `digits::all_characters` meets its contract: so far, and the rest, is the whole. Assumes nothing.
-use Rattle.std.proofs.Common.{sym, refl, ◌∙◌, add-one, drop_of_length-le, rules}
-use mathlib.Core.Bool.{and-true, and_assoc}
-use Rattle.digits.specs.Digits.{is_character, every_byte}
-use Rattle.digits.proofs.laws.Strings.{every_turn}
+-- `digits::all_characters` meets its contract. Assumes nothing.
+use Rattle.std.proofs.Common.{◌≡◌, true, ◌&&◌, ◌∙◌, rules}
+use Rattle.std.specs.List.{fold}
+use Rattle.std.proofs.lemmas.Iterator.{YieldsList-from_slice}
+use Rattle.std.proofs.lemmas.Iterator.Consumers.{fold_from_yields_List}
+use Rattle.digits.specs.Digits.{is_character}
+use Rattle.digits.proofs.laws.Strings.{fold_every}
 use Rattle.digits.proofs.all_characters.Goals as goal
 
-pub loop-i-init : goal.loop-i-init
-loop-i-init c = (search rules, refl)
-
-pub loop-i-preserved : goal.loop-i-preserved
-loop-i-preserved c =
-    let l = c.loop-i in
-    let turn = every_turn is_character c.args.s.now l.i c.loop-i-test.true in
-    (search rules, rw add-one (and_assoc l.all _ _ ∙ rw (← turn) l.invariant.1))
-
 pub returns : goal.returns
-unfolding every_byte
 returns c =
-    let l = c.loop-i in
-    let end = drop_of_length-le c.args.s.now {i = l.i} c.loop-i-test.false in
-    sym (and-true l.all) ∙ rw end at l.invariant.1
+    let s = c.args.s.now in
+    let e : c.fold.result ≡ fold (λ all b. all && is_character b) true s = fold_from_yields_List _ _ _ _ c.fold.ensures.ran (YieldsList-from_slice s cc) (λ a x b q k. search rules) in
+    e ∙ fold_every is_character s

@@ -1,5 +1,5 @@
 -- Parsing and printing undo each other, over the width. Assumes nothing.
-use Rattle.std.specs.Prelude.{◌≡◌, ℕ, zero, suc, ◌+◌, ◌-◌, ◌*◌, ◌/◌, ◌%◌, ◌^◌, ◌<◌, ◌≤◌, Bool, true, false, cond, ◌&&◌, List, [], ◌∷◌, ◌++◌, length, drop, replicate, ◌==◌, nat_le, slice_index, refl}
+use Rattle.std.specs.Prelude.{◌≡◌, ℕ, zero, suc, ◌+◌, ◌-◌, ◌*◌, ◌/◌, ◌%◌, ◌^◌, ◌<◌, ◌≤◌, Bool, true, false, cond, ◌&&◌, List, [], ◌∷◌, ◌++◌, length, drop, replicate, ◌==◌, nat_le, slice_index, refl, None, Some}
 use Rattle.std.proofs.Common.{sym, ap, ap₂, ◌∙◌, pow-suc, add-mul, mul_assoc, div-lt_iff_lt-mul, add-one, arith, lt-ltb, le-ltb, le-leb, leb-true, eq-eqb, eqb-true, ne_eqb, length-append}
 use Rattle.std.proofs.Math.Nat.{pow-succ', pow-le-pow_right, one-le-pow}
 use Rattle.std.proofs.Math.Decide.{dec_lt}
@@ -8,7 +8,6 @@ use Rattle.std.proofs.Math.Arith.{digits_lt, digits_div, digits_mod}
 use Rattle.std.proofs.lemmas.List.{length-replicate}
 use Rattle.digits.specs.Digits.{digit_of, digit_byte, leading, weighed}
 use Rattle.digits.specs.Numbers.{number, most_digits, number_of, value, last_digits, star, numeral}
-use Rattle.digits.specs.declared.spelling.Number.TheVariants.{Is, Not}
 use Rattle.digits.proofs.laws.Strings.{Digit, Digits, digit_small, digit_value, same_digit, digits_nil, digits_cons, digits_append, head, rest, leading_all, all_leading}
 use Rattle.digits.proofs.laws.Sums.{weighed_drop}
 
@@ -85,7 +84,7 @@ length_numeral w n = go (dec_lt n (10 ^ w))
     go (no h) = rw (numeral_wide w n (omega arith)) (length-replicate w star)
 
 -- a string of digits, not too many, gives the number that it spells; nothing else gives one
-pub digits_give : (bs : List ℕ) → Digits bs → length bs ≤ most_digits → number_of bs ≡ Is (number bs)
+pub digits_give : (bs : List ℕ) → Digits bs → length bs ≤ most_digits → number_of bs ≡ Some (number bs)
 unfolding number_of
 digits_give bs ds h = rw (eq-eqb (leading bs) (length bs) (all_leading bs ds), le-leb (length bs) most_digits h)
 
@@ -94,20 +93,20 @@ pub record Given (bs : List ℕ) (n : ℕ) : Type 0 where
   pub few : length bs ≤ most_digits
   pub is : n ≡ number bs
 
-pub given : (bs : List ℕ) (n : ℕ) → number_of bs ≡ Is n → Given bs n
+pub given : (bs : List ℕ) (n : ℕ) → number_of bs ≡ Some n → Given bs n
 unfolding number_of
 given bs n e = go (leading bs == length bs) (nat_le (length bs) most_digits) refl refl e
   where
-    go : (a b : Bool) → (leading bs == length bs) ≡ a → nat_le (length bs) most_digits ≡ b → cond (a && b) (Is (number bs)) Not ≡ Is n → Given bs n
+    go : (a b : Bool) → (leading bs == length bs) ≡ a → nat_le (length bs) most_digits ≡ b → cond (a && b) (Some (number bs)) None ≡ Some n → Given bs n
     go true true p q e = record { digits = leading_all bs (eqb-true _ _ p); few = leb-true _ _ q; is = cc }
     go true false p q e = absurd (let z : ◌≡◌ {A = ℕ} 0 1 = cc in omega arith)
     go false b p q e = absurd (let z : ◌≡◌ {A = ℕ} 0 1 = cc in omega arith)
 
-pub given_lt : (bs : List ℕ) (n : ℕ) → number_of bs ≡ Is n → n < 10 ^ length bs
+pub given_lt : (bs : List ℕ) (n : ℕ) → number_of bs ≡ Some n → n < 10 ^ length bs
 given_lt bs n e = rw (given bs n e).is (number_lt bs)
 
 -- one byte gives its digit: a test of the number is one of the byte
-pub digit_told : (b n k : ℕ) → number_of (b ∷ []) ≡ Is n → (b == digit_byte k) ≡ (n == k)
+pub digit_told : (b n k : ℕ) → number_of (b ∷ []) ≡ Some n → (b == digit_byte k) ≡ (n == k)
 unfolding weighed
 digit_told b n k e = go (n == k) refl
   where
@@ -119,23 +118,23 @@ digit_told b n k e = go (n == k) refl
     go false q = ne_eqb b (digit_byte k) (λ z. eqb-false n k q (omega (arith, is)))
 
 -- what is printed is parsed to the same number
-pub printed_parsed : (w n : ℕ) → n < 10 ^ w → w ≤ most_digits → number_of (numeral w n) ≡ Is n
+pub printed_parsed : (w n : ℕ) → n < 10 ^ w → w ≤ most_digits → number_of (numeral w n) ≡ Some n
 printed_parsed w n h few =
     let long : length (last_digits w n) ≤ most_digits = omega (arith, length_digits w n) in
     rw (numeral_fits w n h, digits_give (last_digits w n) (digits_digits w n) long, number_digits w n h)
 
 -- what is parsed is printed to the same bytes
-pub parsed_printed : (bs : List ℕ) (n : ℕ) → number_of bs ≡ Is n → numeral (length bs) n ≡ bs
+pub parsed_printed : (bs : List ℕ) (n : ℕ) → number_of bs ≡ Some n → numeral (length bs) n ≡ bs
 parsed_printed bs n e =
     let g = given bs n e in
     rw (g.is, numeral_fits (length bs) (number bs) (number_lt bs)) (digits_number bs g.digits)
 
 -- a number of more digits than its width is printed as no number
-pub wide_not_parsed : (w n : ℕ) → 0 < w → 10 ^ w ≤ n → number_of (numeral w n) ≡ Not
+pub wide_not_parsed : (w n : ℕ) → 0 < w → 10 ^ w ≤ n → number_of (numeral w n) ≡ None
 unfolding number_of leading
 wide_not_parsed w n p h = rw (numeral_wide w n h) (none w p)
   where
-    none : (w : ℕ) → 0 < w → number_of (replicate w star) ≡ Not
+    none : (w : ℕ) → 0 < w → number_of (replicate w star) ≡ None
     none zero p = absurd (omega arith)
     none (suc w) p = rw (ne_eqb 0 (suc (length (replicate w star))) (λ e. omega arith))
 

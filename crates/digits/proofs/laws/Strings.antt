@@ -1,7 +1,9 @@
 -- Digit strings: all digits, their parts, and a string written out. Assumes nothing.
 use Rattle.std.specs.Prelude.{◌≡◌, ℕ, zero, suc, ◌+◌, ◌-◌, ◌<◌, ◌≤◌, Bool, true, false, cond, ◌&&◌, ◌||◌, T, List, [], ◌∷◌, ◌++◌, length, take, drop, set, ◌==◌, nat_le, slice_index, slice_set, refl}
 use Rattle.std.proofs.Common.{sym, ap, ◌∙◌, subst, zero-le, suc-le-suc, le_of_suc-le-suc, not-suc-le-zero, arith, get_or-take, get_or-drop, drop-cons, leb→le, le-leb, ne_eqb}
-use Rattle.std.proofs.Math.Bool.{and-eq-true_iff}
+use Rattle.std.specs.List.{fold, take_while}
+use Rattle.std.proofs.lemmas.List.Sums.{take_while-cons}
+use Rattle.std.proofs.Math.Bool.{and-eq-true_iff, and-true, and_assoc}
 use Rattle.std.proofs.Math.Nat.{sub-zero, suc-sub-suc}
 use Rattle.std.proofs.lemmas.List.{drop-set-add, take-set-le, set-get_or}
 use Rattle.std.proofs.Math.Seq.{take-set-lt}
@@ -105,6 +107,22 @@ all_cons b bs = go (is_digit b)
 pub all_drop : (s : List ℕ) (i : ℕ) → i < length s → all_digits (drop i s) ≡ is_digit (slice_index s i) && all_digits (drop (suc i) s)
 all_drop s i h = rw (drop-cons s i 0 h) (all_cons (slice_index s i) (drop (suc i) s))
 
+-- all digits, as a test of every byte
+pub every_digit : (bs : List ℕ) → every_byte is_digit bs ≡ all_digits bs
+unfolding every_byte leading
+every_digit [] = refl
+every_digit (b ∷ bs) = ap (λ (t : Bool). is_digit b && t) (every_digit bs) ∙ sym (all_cons b bs)
+
+-- the digits that a string begins with
+pub first_digits : (bs : List ℕ) → length (take_while is_digit bs) ≡ leading bs
+unfolding leading
+first_digits [] = refl
+first_digits (b ∷ bs) = rw take_while-cons (go (is_digit b) (first_digits bs))
+  where
+    go : (t : Bool) → length (take_while is_digit bs) ≡ leading bs → length (cond t (b ∷ take_while is_digit bs) []) ≡ cond t (suc (leading bs)) 0
+    go true e = ap suc e
+    go false e = refl
+
 pub digits_append : {xs ys : List ℕ} → Digits xs → Digits ys → Digits (xs ++ ys)
 digits_append {xs = []} dx dy = dy
 digits_append {xs = x ∷ xs} dx dy = digits_cons (head dx) (digits_append (rest dx) dy)
@@ -139,6 +157,15 @@ character_is b q = go (is_digit b) (is_letter b) refl refl q
 pub every_turn : (test : ℕ → Bool) (s : List ℕ) (i : ℕ) → i < length s → every_byte test (drop i s) ≡ test (slice_index s i) && every_byte test (drop (suc i) s)
 unfolding every_byte
 every_turn test s i h = rw (drop-cons s i 0 h)
+
+-- all bytes looked at, one behind the other
+fold_from : (test : ℕ → Bool) (so_far : Bool) (bs : List ℕ) → fold (λ all b. all && test b) so_far bs ≡ so_far && every_byte test bs
+unfolding every_byte
+fold_from test so_far [] = sym (and-true so_far)
+fold_from test so_far (b ∷ bs) = fold_from test (so_far && test b) bs ∙ and_assoc so_far (test b) (every_byte test bs)
+
+pub fold_every : (test : ℕ → Bool) (bs : List ℕ) → fold (λ all b. all && test b) true bs ≡ every_byte test bs
+fold_every test bs = fold_from test true bs
 
 -- a byte stored that passes
 pub every_set : (test : ℕ → Bool) (bs : List ℕ) (i v : ℕ) → every_byte test bs ≡ true → test v ≡ true → every_byte test (slice_set bs i v) ≡ true

@@ -1,17 +1,14 @@
 -- What a field's bytes are where its rules are kept, and what is refused where they are no number. Assumes nothing.
-use Rattle.std.specs.Prelude.{◌≡◌, refl, Bool, true, false, cond, not, ◌||◌, List, [], ◌∷◌, ◌++◌, ℕ, zero, suc, ◌≤◌, ◌<◌, T, eqb, length, get_or, take, drop}
+use Rattle.std.specs.Prelude.{◌≡◌, refl, Bool, true, false, cond, not, ◌||◌, List, [], ◌∷◌, ◌++◌, ℕ, zero, suc, ◌≤◌, ◌<◌, T, eqb, length, get_or, take, drop, None, Ok, Option, Some}
 use Rattle.std.proofs.Common.{sym, ap, subst, ◌∙◌, append_assoc, not-suc-le-zero, le_of_suc-le-suc, arith, leb→le, eqb→eq, length-take}
 use borrow.Author.Tests.{eqb-true}
 use Rattle.answer.specs.Rules.{Rule, rule, first_broken, AllKept, refused_as}
 use Rattle.answer.proofs.laws.Order.{never, accepted_kept, here, gone_on, front_accepted}
-use Rattle.answer.specs.declared.Answer.TheVariants.{Accepted}
 use Rattle.digits.specs.Digits.{all_digits}
 use Rattle.digits.specs.Numbers.{number, most_digits, number_of}
 use Rattle.digits.proofs.laws.Tests.{both}
 use Rattle.digits.proofs.laws.Strings.{Digit, Digits, head, rest, leading_all}
 use Rattle.digits.proofs.laws.Numerals.{digits_give}
-use Rattle.digits.specs.declared.spelling.Number.{Number}
-use Rattle.digits.specs.declared.spelling.Number.TheVariants.{Is, Not}
 use Rattle.calendar.specs.Calendar.{number_fits, date_fits, time_fits}
 use Rattle.layout.specs.Pairs.{Pairs, pairs, among, batch_among, batch_of, known}
 use Rattle.layout.specs.Field.{Kind, N, NOrBlank, Id, T as Text, F, D, Time, K, O, Zeros, Exact, OneOf, Service, Form, Barcode, Code, RecordType, Segment, Field, field, part, none}
@@ -33,19 +30,19 @@ use Rattle.fields.proofs.laws.Wide.{wide, carrier, wide_number, wide_place}
 
 -- ---- bytes that give a number
 
-record Some (m : Number) : Type 0 where
+record IsNumber (m : Option ℕ) : Type 0 where
   value : ℕ
-  is : m ≡ Is value
+  is : m ≡ Some value
 
-digits_some : (bs : List ℕ) → Digits bs → length bs ≤ most_digits → Some (number_of bs)
+digits_some : (bs : List ℕ) → Digits bs → length bs ≤ most_digits → IsNumber (number_of bs)
 digits_some bs ds h = record { value = number bs; is = digits_give bs ds h }
 
-all_some : (bs : List ℕ) → length bs ≤ most_digits → all_digits bs ≡ true → Some (number_of bs)
+all_some : (bs : List ℕ) → length bs ≤ most_digits → all_digits bs ≡ true → IsNumber (number_of bs)
 all_some bs h e = digits_some bs (leading_all bs (eqb-true _ _ e)) h
 
-fits_some : (test : ℕ → Bool) (m : Number) → number_fits test m ≡ true → Some m
-fits_some test (Is n) e = record { value = n; is = refl }
-fits_some test Not e = never e
+fits_some : (test : ℕ → Bool) (m : Option ℕ) → number_fits test m ≡ true → IsNumber m
+fits_some test (Some n) e = record { value = n; is = refl }
+fits_some test None e = never e
 
 among_digit : (b : ℕ) (domain : List ℕ) → Digits domain → among b domain ≡ true → Digit b
 among_digit b [] ds e = never e
@@ -55,20 +52,20 @@ among_digit b (m ∷ ms) ds e = go (eqb b m) refl (among_digit b ms (rest ds)) e
     go true q others e = rw (eqb-true b m q) (head ds)
     go false q others e = others e
 
-one_some : (domain bs : List ℕ) → T (all_digits domain) → one_of domain bs ≡ true → Some (number_of bs)
+one_some : (domain bs : List ℕ) → T (all_digits domain) → one_of domain bs ≡ true → IsNumber (number_of bs)
 one_some domain bs t e =
     let one : length bs ≡ 1 = eqb-true _ _ (and_left (eqb (length bs) 1) _ e) in
     let d = among_digit (get_or bs 0 0) domain (leading_all domain (eqb→eq _ _ t)) (and_right (eqb (length bs) 1) _ e) in
     digits_some bs (record { each = λ i h. let z : i ≡ 0 = omega arith in rw z d }) (omega arith)
 
 -- each half of a pair
-service_some : (ps : List Pairs) (service form : Number) → known (batch_among ps service form) ≡ true → Some service
-service_some ps (Is n) form e = record { value = n; is = refl }
-service_some ps Not form e = never (rw (no_service ps form) at e)
+service_some : (ps : List Pairs) (service form : Option ℕ) → known (batch_among ps service form) ≡ true → IsNumber service
+service_some ps (Some n) form e = record { value = n; is = refl }
+service_some ps None form e = never (rw (no_service ps form) at e)
 
-form_some : (ps : List Pairs) (service form : Number) → known (batch_among ps service form) ≡ true → Some form
-form_some ps service (Is n) e = record { value = n; is = refl }
-form_some ps service Not e = never (rw (no_form ps service) at e)
+form_some : (ps : List Pairs) (service form : Option ℕ) → known (batch_among ps service form) ≡ true → IsNumber form
+form_some ps service (Some n) e = record { value = n; is = refl }
+form_some ps service None e = never (rw (no_form ps service) at e)
 
 same_places : (g f : Field) (bs : List ℕ) → T (stands g f) → part f bs ≡ part g bs
 same_places g f bs t =
@@ -78,8 +75,8 @@ same_places g f bs t =
 -- ---- bytes of a number that may be not given
 
 data Spelled (bs : List ℕ) : Presence → Type 0 where
-  some : {p : Presence} → Some (number_of bs) → Spelled bs p
-  blanks : number_of bs ≡ Not → run blank (length bs) ≡ bs → Spelled bs perhaps
+  some : {p : Presence} → IsNumber (number_of bs) → Spelled bs p
+  blanks : number_of bs ≡ None → run blank (length bs) ≡ bs → Spelled bs perhaps
 
 number_or_blank_spelled : (bs : List ℕ) → length bs ≤ most_digits → number_or_blank bs ≡ true → Spelled bs perhaps
 number_or_blank_spelled bs h e = go (all_digits bs) refl e
@@ -90,11 +87,11 @@ number_or_blank_spelled bs h e = go (all_digits bs) refl e
 
 -- neither a number nor, where it may be not given, blanks
 pub record NoNumber (p : Presence) (bs : List ℕ) : Type 0 where
-  pub none : number_of bs ≡ Not
+  pub none : number_of bs ≡ None
   pub solid : p ≡ perhaps → run blank (length bs) ≡ bs → ⊥
 
 not_spelled : {p : Presence} {bs : List ℕ} → NoNumber p bs → Spelled bs p → ⊥
-not_spelled x (some s) = absurd (let z : ◌≡◌ {A = ℕ} 0 1 = ap (λ (m : Number). cond (is_given m) 1 0) (sym x.none ∙ s.is) in omega arith)
+not_spelled x (some s) = absurd (let z : ◌≡◌ {A = ℕ} 0 1 = ap (λ (m : Option ℕ). cond (is_given m) 1 0) (sym x.none ∙ s.is) in omega arith)
 not_spelled x (blanks n e) = x.solid refl e
 
 -- ---- a kind's rules, by how it is held
@@ -136,8 +133,8 @@ module _ (f : Field) (d : Direction) (rec : List ℕ) (s : Sound f) where
 
 -- what is known of a field's bytes that keep its rules, by how the field is held
 pub data Kept (bs : List ℕ) : Held → Type 0 where
-  is_number : {p : Presence} {n : ℕ} → number_of bs ≡ Is n → Kept bs (a_number p)
-  is_blank : number_of bs ≡ Not → run blank (length bs) ≡ bs → Kept bs as_number_if_given
+  is_number : {p : Presence} {n : ℕ} → number_of bs ≡ Some n → Kept bs (a_number p)
+  is_blank : number_of bs ≡ None → run blank (length bs) ≡ bs → Kept bs as_number_if_given
   is-bytes : Kept bs as_bytes
   is-fixed : {content : ℕ → List ℕ} → content (length bs) ≡ bs → Kept bs (as_fixed content)
 
@@ -146,7 +143,7 @@ spells (some s) = is_number s.is
 spells (blanks n e) = is_blank n e
 
 module _ {bs : List ℕ} {number place : ℕ} where
-  keeps : {h : Held} {rules : List Rule} → Ruled bs number place h rules → first_broken rules ≡ Accepted → Kept bs h
+  keeps : {h : Held} {rules : List Rule} → Ruled bs number place h rules → first_broken rules ≡ Ok tt → Kept bs h
   unfolding AllKept
   keeps (a-number k) e = spells (k (accepted_kept _ e).0)
   keeps any_bytes e = is-bytes
@@ -163,7 +160,7 @@ module _ {bs : List ℕ} {number place : ℕ} where
   breaks content_only e none = cc
 
 module _ (f : Field) (d : Direction) (rec : List ℕ) (s : Sound f) where
-  pub kept : first_broken (field_rules (carrier f) d rec) ≡ Accepted → Kept (part f rec) (held_as f)
+  pub kept : first_broken (field_rules (carrier f) d rec) ≡ Ok tt → Kept (part f rec) (held_as f)
   kept = keeps (rules-of f d rec s)
 
   -- no number stands there, and no blanks where it may be not given
@@ -173,7 +170,7 @@ module _ (f : Field) (d : Direction) (rec : List ℕ) (s : Sound f) where
 
 -- ---- one field's rules among all
 
-pub back_accepted : (xs ys : List Rule) → first_broken (xs ++ ys) ≡ Accepted → first_broken ys ≡ Accepted
+pub back_accepted : (xs ys : List Rule) → first_broken (xs ++ ys) ≡ Ok tt → first_broken ys ≡ Ok tt
 back_accepted xs ys e = gone_on xs ys (front_accepted xs ys e) ∙ e
 
 pub rules_at : (fs : List Field) (d : Direction) (rec : List ℕ) (j : ℕ) → j < length fs
@@ -184,7 +181,7 @@ rules_at (f ∷ fs) d rec zero h = refl
 rules_at (f ∷ fs) d rec (suc j) h = rw (rules_at fs d rec j (le_of_suc-le-suc h)) (sym (append_assoc (field_rules f d rec) _ _))
 
 -- each field's rules are kept, if all are
-each_accepted : (fs : List Field) (d : Direction) (rec : List ℕ) → first_broken (rules_of fs d rec) ≡ Accepted → All (λ f. first_broken (field_rules f d rec) ≡ Accepted) fs
+each_accepted : (fs : List Field) (d : Direction) (rec : List ℕ) → first_broken (rules_of fs d rec) ≡ Ok tt → All (λ f. first_broken (field_rules f d rec) ≡ Ok tt) fs
 unfolding rules_of All
 each_accepted [] d rec e = tt
 each_accepted (f ∷ fs) d rec e = (front_accepted (field_rules f d rec) _ e, each_accepted fs d rec (back_accepted (field_rules f d rec) _ e))
@@ -221,13 +218,13 @@ carried : (r : Record) (P : Field → Type 0) → All P (fields_of r) → All (�
 carried r P a = carried_in P (fields_of r) (λ e. service_in P (subst (λ (q : Record). All P (fields_of q)) (paired_header r e) a)) a
 
 -- each field of a record whose fields are accepted is right
-pub kept_field : (r : Record) (d : Direction) (rec : List ℕ) → first_broken (rules_of (fields_of r) d rec) ≡ Accepted
+pub kept_field : (r : Record) (d : Direction) (rec : List ℕ) → first_broken (rules_of (fields_of r) d rec) ≡ Ok tt
     → (j : ℕ) → j < length (fields_of r) → let f = get_or (fields_of r) j none in Kept (part f rec) (held_as f)
 kept_field r d rec e j h =
-    let each = carried r (λ f. first_broken (field_rules f d rec) ≡ Accepted) (each_accepted (fields_of r) d rec e) in
-    kept _ d rec (sound_at r j h) (at (λ f. first_broken (field_rules (carrier f) d rec) ≡ Accepted) (fields_of r) each j h)
+    let each = carried r (λ f. first_broken (field_rules f d rec) ≡ Ok tt) (each_accepted (fields_of r) d rec e) in
+    kept _ d rec (sound_at r j h) (at (λ f. first_broken (field_rules (carrier f) d rec) ≡ Ok tt) (fields_of r) each j h)
 
-module _ (r : Record) (d : Direction) (rec : List ℕ) (e : first_broken (record_rules r d rec) ≡ Accepted) where
+module _ (r : Record) (d : Direction) (rec : List ℕ) (e : first_broken (record_rules r d rec) ≡ Ok tt) where
   pub right_length : length rec ≡ record_bytes
   unfolding record_rules AllKept
   right_length = eqb-true _ _ (accepted_kept _ e).0

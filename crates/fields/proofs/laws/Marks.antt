@@ -1,10 +1,9 @@
 -- The type and the segment of a record that is made are right: they are filled. Then its answer is that of its bytes and its fields. Assumes nothing.
-use Rattle.std.specs.Prelude.{◌≡◌, refl, Bool, true, false, cond, [], ◌∷◌, ◌++◌, ℕ, ◌<◌, length, get_or}
+use Rattle.std.specs.Prelude.{◌≡◌, refl, Bool, true, false, cond, [], ◌∷◌, ◌++◌, ℕ, ◌<◌, length, get_or, Err}
 use Rattle.std.proofs.Common.{sym, ap, ◌∙◌, arith, eq-eqb}
 use Rattle.answer.specs.Rules.{first_broken, AllKept}
 use Rattle.answer.proofs.laws.Order.{past, gone_on, kept_accepted}
-use Rattle.answer.specs.declared.Answer.{Answer}
-use Rattle.answer.specs.declared.Answer.TheVariants.{Refused}
+use Rattle.answer.specs.Rules.{Answer}
 use Rattle.layout.specs.Field.{Field, part, none}
 use Rattle.layout.specs.Table.{type_field, segment_field, marks, fields_of, record_bytes}
 use Rattle.layout.specs.Kinds.{Held, as_fixed, text, same}
@@ -43,4 +42,4 @@ made_answer r d v full =
     let fields = rules_of (fields_of r) d rec in
     let behind : first_broken (rules_of (marks r) d rec ++ fields) ≡ first_broken fields = sym (gone_on (rules_of (marks r) d rec) fields (kept_accepted _ (marks_kept r d v full))) in
     sym (past 1 0 _ (byte_rule rec ∷ (rules_of (marks r) d rec ++ fields)) _ (eq-eqb _ _ (record_length r v full)) refl)
-    ∙ ap (λ (a : Answer). cond (byte_rule rec).kept a (Refused (byte_rule rec).refused)) behind
+    ∙ ap (λ (a : Answer). cond (byte_rule rec).kept a (Err (byte_rule rec).refused)) behind

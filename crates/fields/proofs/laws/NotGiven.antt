@@ -1,17 +1,16 @@
 -- A field that is said not to be given: its number is none and its text blank, and everything else stays. So it is written as blanks, unless its
 -- content is fixed. Assumes nothing.
-use Rattle.std.specs.Prelude.{◌≡◌, refl, false, List, [], ◌∷◌, ◌++◌, ℕ, zero, suc, ◌-◌, ◌≤◌, ◌<◌, length, get_or, take, drop, set, replicate}
-use Rattle.std.proofs.Common.{ap, ap₂, ◌∙◌, not-suc-le-zero, le_of_suc-le-suc, arith, eq-eqb, lt-ltb, length-append, length-drop, get_or-set_same, get_or-set_other, length-take-le}
+use Rattle.std.specs.Prelude.{◌≡◌, refl, List, [], ◌∷◌, ◌++◌, ℕ, zero, suc, ◌-◌, ◌≤◌, ◌<◌, length, get_or, take, drop, set, replicate, None}
+use Rattle.std.proofs.Common.{ap, ◌∙◌, not-suc-le-zero, le_of_suc-le-suc, arith, eq-eqb, lt-ltb, length-append, length-drop, get_or-set_same, get_or-set_other, length-take-le}
 use Rattle.std.proofs.lemmas.List.{length-replicate}
 use Rattle.answer.specs.Output.{over}
-use Rattle.digits.specs.declared.spelling.Number.TheVariants.{Not}
 use Rattle.layout.specs.Field.{Field, part, none}
 use Rattle.layout.specs.Records.{code}
 use Rattle.layout.specs.Table.{fields_of, record_bytes}
 use Rattle.layout.specs.Kinds.{run, blank}
 use Rattle.layout.specs.inner.Entries.{width}
 use Rattle.layout.proofs.laws.Tiling.{Inside, insides, at}
-use Rattle.fields.specs.Values.{held_as, nth, number_if, rendered, record_of, most_fields, over_field, not_given, Whole}
+use Rattle.fields.specs.Values.{held_as, nth, rendered, record_of, most_fields, over_field, not_given, Whole}
 use Rattle.fields.proofs.laws.Parts.{few, part_behind, part_width, holds}
 use Rattle.fields.specs.declared.Fields.{Fields}
 
@@ -35,8 +34,7 @@ module _ (v : Fields) (whole : Whole v) (j : ℕ) (h : j < length (fields_of v.w
   is_said =
       record {
         which = v.which;
-        numbers = set v.numbers j 0;
-        given = set v.given j false;
+        numbers = set v.numbers j None;
         text = over_field field_there (run blank record_bytes) v.text;
       }
 
@@ -45,11 +43,11 @@ module _ (v : Fields) (whole : Whole v) (j : ℕ) (h : j < length (fields_of v.w
       let own = eq-eqb (code v.which) (code v.which) refl in
       rw (own, lt-ltb j (length (fields_of v.which)) h, lt-ltb j most_fields (omega (arith, few v.which)), own)
 
-  pub none_there : nth j said ≡ Not
-  none_there = rw (said_is, get_or-set_same v.given j false false (omega (arith, few v.which, whole.given)))
+  pub none_there : nth j said ≡ None
+  none_there = rw (said_is, get_or-set_same v.numbers j None None (omega (arith, few v.which, whole.numbers)))
 
   pub other_numbers : (k : ℕ) → (k ≡ j → ⊥) → nth k said ≡ nth k v
-  other_numbers k ne = rw said_is (ap₂ number_if (get_or-set_other v.given j k false false ne) (get_or-set_other v.numbers j k 0 0 ne))
+  other_numbers k ne = rw said_is (get_or-set_other v.numbers j k None None ne)
 
   pub text_is : said.text ≡ take (field_there.from - 1) v.text ++ (run blank (width field_there) ++ drop field_there.to v.text)
   text_is =
@@ -72,5 +70,5 @@ module _ (v : Fields) (whole : Whole v) (j : ℕ) (h : j < length (fields_of v.w
       rw (text_is, length-append, length-append, front_long, length-drop) (omega (arith, whole.text, length-replicate {A = ℕ} (width field_there) blank))
 
   -- the record holds blanks for it, unless its content is fixed
-  pub blank_field : part field_there (record_of v.which said) ≡ rendered (held_as field_there) Not (run blank (width field_there))
+  pub blank_field : part field_there (record_of v.which said) ≡ rendered (held_as field_there) None (run blank (width field_there))
   blank_field = holds v.which said said_full j h ∙ rw (none_there, blank_text)

@@ -1,6 +1,6 @@
 -- A record that is written has 240 bytes, and holds at each field's places, and so at each place, what the caller gives or what is fixed.
 -- Assumes nothing.
-use Rattle.std.specs.Prelude.{◌≡◌, T, leb, length}
+use Rattle.std.specs.Prelude.{◌≡◌, T, leb, length, None, Option, Some}
 use Rattle.std.proofs.Math.Path.{refl, sym, ap}
 use Rattle.std.proofs.Common.{◌∙◌, zero-add, not-suc-le-zero, le_of_suc-le-suc, leb→le, length-append, take_at, drop_at, ext_get_or}
 use mathlib.Core.List.{List, [], ◌∷◌, ◌++◌, append_assoc}
@@ -16,8 +16,6 @@ use Rattle.digits.proofs.laws.Numerals.{length_numeral}
 use Rattle.layout.specs.inner.Lent.{span_of}
 use Rattle.layout.specs.Field.{Field, part, none}
 use Rattle.layout.specs.Table.{fields_of, record_bytes, tiles}
-use Rattle.digits.specs.declared.spelling.Number.{Number}
-use Rattle.digits.specs.declared.spelling.Number.TheVariants.{Is, Not}
 use Rattle.layout.specs.Kinds.{Held, a_number, as_bytes, as_fixed, blank}
 use Rattle.layout.proofs.laws.Bytes.{length_places}
 use Rattle.layout.proofs.laws.Tiling.{tiled, head, ends, covered, Inside, insides, All, at}
@@ -40,9 +38,9 @@ narrow r e = omega (arith, first_is r e, past_is r e, few r)
 
 -- ---- a field's bytes have its width
 
-length_rendered : (h : Held) (m : Number) (w : ℕ) (bs : List ℕ) → T (fills h w) → length bs ≡ w → length (rendered h m bs) ≡ w
-length_rendered (a_number p) (Is n) w bs s e = length_numeral (length bs) n ∙ e
-length_rendered (a_number p) Not w bs s e = length-replicate {A = ℕ} (length bs) blank ∙ e
+length_rendered : (h : Held) (m : Option ℕ) (w : ℕ) (bs : List ℕ) → T (fills h w) → length bs ≡ w → length (rendered h m bs) ≡ w
+length_rendered (a_number p) (Some n) w bs s e = length_numeral (length bs) n ∙ e
+length_rendered (a_number p) None w bs s e = length-replicate {A = ℕ} (length bs) blank ∙ e
 length_rendered as_bytes m w bs s e = e
 length_rendered (as_fixed content) m w bs s e = rw e (eqb→eq _ _ s)
 
@@ -57,7 +55,7 @@ pub record First (p : ℕ) (f : Field) (fs : List Field) (bs : List ℕ) : Type 
   pub others : T (tiles (suc f.to) fs)
 
 module _ (text : List ℕ) (full : length text ≡ record_bytes) where
-  pub first : (p : ℕ) (f : Field) (fs : List Field) (m : Number) → T (tiles (suc p) (f ∷ fs)) → Sound f → First p f fs (rendered (held_as f) m (part f text))
+  pub first : (p : ℕ) (f : Field) (fs : List Field) (m : Option ℕ) → T (tiles (suc p) (f ∷ fs)) → Sound f → First p f fs (rendered (held_as f) m (part f text))
   first p f fs m t s =
       let h = head (suc p) f fs t in
       let e = ends (suc f.to) fs h.rest in

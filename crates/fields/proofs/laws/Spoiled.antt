@@ -1,17 +1,15 @@
 -- The record that spoiled fields make is refused, and so is every record with such bytes and with one such number: whatever is set over the other
 -- numbers. Assumes nothing.
 use Rattle.fields.proofs.laws.Wide.{carrier}
-use Rattle.std.specs.Prelude.{◌≡◌, refl, Bool, true, false, cond, ◌||◌, List, [], ◌∷◌, ℕ, zero, suc, ◌-◌, ◌^◌, ◌≤◌, ◌<◌, T, ltb, eqb, length, get_or, drop, replicate}
+use Rattle.std.specs.Prelude.{◌≡◌, refl, Bool, true, false, cond, ◌||◌, List, [], ◌∷◌, ℕ, zero, suc, ◌-◌, ◌^◌, ◌≤◌, ◌<◌, T, ltb, eqb, length, get_or, drop, replicate, Ok, Some}
 use Rattle.std.proofs.Common.{sym, ap, subst, ◌∙◌, arith, not-suc-le-zero, le_of_suc-le-suc, ltb-true, eqb→eq, lit≤}
 use Rattle.std.proofs.lemmas.List.{get_or-replicate}
 use Rattle.answer.specs.Rules.{first_broken, AllKept}
 use Rattle.answer.proofs.laws.Order.{never, never_refused, accepted_kept, front_accepted}
-use Rattle.answer.specs.declared.Answer.TheVariants.{Accepted}
 use Rattle.digits.proofs.laws.Strings.{part_get_or}
 use Rattle.layout.specs.Field.{Field, part, none}
 use Rattle.layout.specs.Table.{fields_of, record_bytes}
 use Rattle.layout.specs.Kinds.{Held, a_number, as_number, as_bytes, as_fixed}
-use Rattle.digits.specs.declared.spelling.Number.TheVariants.{Is}
 use Rattle.layout.specs.Record.{printable, all_printable, first_rules, rules_of, record_rules, field_rules}
 use Rattle.layout.proofs.laws.Bytes.{and_left, and_right, printable_turn}
 use Rattle.layout.specs.inner.Entries.{width}
@@ -34,7 +32,7 @@ ruined_at = 6
 
 pub record Ruined (v : Fields) : Type 0 where
   pub text : v.text ≡ replicate record_bytes 0
-  pub number : nth ruined_at v ≡ Is largest
+  pub number : nth ruined_at v ≡ Some largest
 
 -- spoiled fields are so
 pub spoiled_ruined : (r : Record) → Ruined (spoiled r)
@@ -75,8 +73,8 @@ module _ (r : Record) (d : Direction) (v : Fields) (text : v.text ≡ replicate 
       never (rw zero-there at (printable_at rec e (f.from - 1) inside))
 
   -- a field that is held as a number, and has its own rule
-  no_number : {A : Type 0} {n : ℕ} → let f = get_or (fields_of r) j none in carrier f ≡ f → held_as f ≡ as_number → nth j v ≡ Is n
-      → 10 ^ width (get_or (fields_of r) j none) ≤ n → first_broken (rules_of (fields_of r) d (record_of r v)) ≡ Accepted → A
+  no_number : {A : Type 0} {n : ℕ} → let f = get_or (fields_of r) j none in carrier f ≡ f → held_as f ≡ as_number → nth j v ≡ Some n
+      → 10 ^ width (get_or (fields_of r) j none) ≤ n → first_broken (rules_of (fields_of r) d (record_of r v)) ≡ Ok tt → A
   no_number own a q l e =
       let rec = record_of r v in
       let kept = front_accepted _ _ (back_accepted (rules_of _ d rec) _ (rw (rules_at (fields_of r) d rec j h) at e)) in
@@ -119,21 +117,21 @@ the_trailer : (r : Record) → has_bytes r ≡ false → r ≡ FileTrailer
 unfolding fields_of
 the_trailer r e = same_code r FileTrailer (without (has_bytes r) (each (λ r. has_bytes r || eqb (code r) (code FileTrailer)) tt r) e)
 
-in_trailer : {A : Type 0} (d : Direction) (v : Fields) → Ruined v → first_broken (rules_of (fields_of FileTrailer) d (record_of FileTrailer v)) ≡ Accepted → A
+in_trailer : {A : Type 0} (d : Direction) (v : Fields) → Ruined v → first_broken (rules_of (fields_of FileTrailer) d (record_of FileTrailer v)) ≡ Ok tt → A
 unfolding fields_of
 in_trailer d v x e = no_number FileTrailer d v x.text ruined_at (lit≤ tt) refl refl x.number (lit≤ tt) e
 
 -- such a record breaks a rule
 pub ruined : {A : Type 0} (r : Record) (d : Direction) (v : Fields) → Ruined v
-    → all_printable (record_of r v) ≡ true → first_broken (rules_of (fields_of r) d (record_of r v)) ≡ Accepted → A
+    → all_printable (record_of r v) ≡ true → first_broken (rules_of (fields_of r) d (record_of r v)) ≡ Ok tt → A
 ruined {A} r d v x p e = go (has_bytes r) refl
   where
     go : (b : Bool) → has_bytes r ≡ b → A
     go true q = let h = ltb-true (bytes_at (fields_of r)) (length (fields_of r)) q in no_bytes r d v x.text (bytes_at (fields_of r)) h (bytes_there (fields_of r) h) p
-    go false q = in_trailer d v x (subst (λ (q : Record). first_broken (rules_of (fields_of q) d (record_of q v)) ≡ Accepted) (the_trailer r q) e)
+    go false q = in_trailer d v x (subst (λ (q : Record). first_broken (rules_of (fields_of q) d (record_of q v)) ≡ Ok tt) (the_trailer r q) e)
 
 -- no record that spoiled fields make is accepted
-pub spoiled_refused : {A : Type 0} (r : Record) (d : Direction) → first_broken (record_rules r d (record_of r (spoiled r))) ≡ Accepted → A
+pub spoiled_refused : {A : Type 0} (r : Record) (d : Direction) → first_broken (record_rules r d (record_of r (spoiled r))) ≡ Ok tt → A
 unfolding record_rules AllKept
 spoiled_refused r d e =
     let rec = record_of r (spoiled r) in

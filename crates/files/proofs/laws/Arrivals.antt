@@ -1,13 +1,12 @@
 -- Files in parts: the state behind any calls is a function of the bytes so far, and so is each answer; the end gives the whole-file check's
 -- outcome, and the machine inside is the one that the whole-file check leaves. Assumes nothing.
-use Rattle.std.specs.Prelude.{◌≡◌, refl, ◌≢◌, Bool, true, false, not, cond, ℕ, ◌<◌, length}
+use Rattle.std.specs.Prelude.{◌≡◌, refl, ◌≢◌, Bool, true, false, not, cond, ℕ, ◌<◌, length, Err, Ok}
 use Rattle.std.proofs.Common.{sym, ap, ◌∙◌, arith, ne_eqb}
 use mathlib.Core.List.{List, [], ◌∷◌, ◌++◌, flatten, map, append-nil, append_assoc}
 use Rattle.answer.specs.Rules.{no_line, refusal, refused_as, first_broken}
 use Rattle.answer.proofs.laws.Order.{never}
 use Rattle.answer.specs.declared.Refusal.{Refusal}
-use Rattle.answer.specs.declared.Answer.{Answer}
-use Rattle.answer.specs.declared.Answer.TheVariants as answer
+use Rattle.answer.specs.Rules.{Answer}
 use Rattle.checker.specs.Order.{ended}
 use Rattle.checker.specs.Line.{line_bytes, record_in, rules_of_line}
 use Rattle.checker.specs.Machine.{start, sound, stepped, answer_to, step_of}
@@ -17,8 +16,7 @@ use Rattle.checker.specs.declared.Stepped.{Stepped}
 use Rattle.files.specs.File.{Lines, empty, short, full, lines_of, unless, steps, out_of_turn, end_of, outcome, whole, finish, check_file}
 use Rattle.files.specs.Parts.{bytes_in, state, waits, unless_refused, arrive, arrived, answer_in, taken, part_call, status_behind, with_end, end_call}
 use Rattle.files.specs.Calls.{PartsCall, part, end, behind_call, fed, bytes_of, end_declared, answers_to}
-use Rattle.files.specs.declared.whole.Outcome.{Outcome}
-use Rattle.files.specs.declared.whole.Outcome.TheVariants as out
+use Rattle.files.specs.File.{Outcome}
 use Rattle.files.specs.declared.incoming.Status.{Status}
 use Rattle.files.specs.declared.incoming.Status.TheVariants.{Open, Refused, Ended}
 use Rattle.files.specs.declared.incoming.Incoming.{Incoming}
@@ -42,8 +40,8 @@ never_ended m (l ∷ ls) e = go (waits m l) (step_of m l).answer (never_ended (s
     go : (b : Bool) (a : Answer) → ((arrive (step_of m l).state ls).status ≡ Ended → ⊥)
         → (cond b (state m l Open) (unless_refused a (step_of m l).state (arrive (step_of m l).state ls))).status ≡ Ended → ⊥
     go true a on q = open_ended q
-    go false answer.Accepted on q = on q
-    go false (answer.Refused r) on q = refused_ended q
+    go false (Ok tt) on q = on q
+    go false (Err r) on q = refused_ended q
 
 -- ---- the machine
 
@@ -53,7 +51,7 @@ unfolding step_of rules_of_line first_broken
 short_leaves m l h on = rw (ne_eqb (length l) line_bytes (λ e. omega arith)) (go (sound m) (ended m.phase))
   where
     go : (ok e : Bool)
-        → let x = cond ok (answer_to (cond (not e) (answer.Refused (refusal 1 no_line 0)) (answer.Refused (refusal 3 no_line 0))) m (record_in l)) (stepped m (refused_as 51 0)) in
+        → let x = cond ok (answer_to (cond (not e) (Err (refusal 1 no_line 0)) (Err (refusal 3 no_line 0))) m (record_in l)) (stepped m (refused_as 51 0)) in
         (unless x.answer on x).state ≡ m
     go true true = refl
     go true false = refl
@@ -70,8 +68,8 @@ machine_is m (l ∷ ls) = go (waits m l) refl (machine_is (step_of m l).state ls
 
     by : (a : Answer) → (step_of m l).answer ≡ a → (arrive t ls).machine ≡ (steps t ls).state
         → (unless_refused a t (arrive t ls)).machine ≡ (unless a (steps t ls) (step_of m l)).state
-    by answer.Accepted q h = h
-    by (answer.Refused r) q h = refl
+    by (Ok tt) q h = h
+    by (Err r) q h = refl
 
     go : (b : Bool) → waits m l ≡ b → (arrive t ls).machine ≡ (steps t ls).state
         → (cond b (state m l Open) (unless_refused (step_of m l).answer t (arrive t ls))).machine ≡ (unless (step_of m l).answer (steps t ls) (step_of m l)).state
@@ -108,8 +106,8 @@ line_ends m l ls kept on = go (waits m l) refl
     by : (a : Answer) → (step_of m l).answer ≡ a
         → (end_call (unless_refused a t (arrive t ls))).outcome
         ≡ outcome (unless a (steps t ls) (step_of m l)).answer (end_of (unless a (steps t ls) (step_of m l)).state)
-    by answer.Accepted q = on
-    by (answer.Refused r) q = rw q
+    by (Ok tt) q = on
+    by (Err r) q = rw q
 
     go : (b : Bool) → waits m l ≡ b → (end_call (cond b (state m l Open) (unless_refused (step_of m l).answer t (arrive t ls)))).outcome ≡ whole m (l ∷ ls)
     go true e = kept e
@@ -145,7 +143,7 @@ refused_stays s r e (part bytes) = rw e
 refused_stays s r e end = rw e
 
 pub refused_again : (s : Incoming) (r : Refusal) → s.status ≡ Refused r → (bytes : List ℕ)
-    → ((part_call s bytes).answer ≡ answer.Refused r) × ((end_call s).outcome ≡ out.Refused r)
+    → ((part_call s bytes).answer ≡ Err r) × ((end_call s).outcome ≡ Err r)
 refused_again s r e bytes = (ap (λ (t : Incoming). answer_in t.status) (refused_stays s r e (part bytes)) ∙ ap answer_in e, rw e)
 
 pub ended_stays : (s : Incoming) → s.status ≡ Ended → (c : PartsCall) → behind_call s c ≡ s
@@ -153,7 +151,7 @@ ended_stays s e (part bytes) = rw e
 ended_stays s e end = rw e
 
 pub ended_again : (s : Incoming) → s.status ≡ Ended → (bytes : List ℕ)
-    → ((part_call s bytes).answer ≡ answer.Refused out_of_turn) × ((end_call s).outcome ≡ out.Refused out_of_turn)
+    → ((part_call s bytes).answer ≡ Err out_of_turn) × ((end_call s).outcome ≡ Err out_of_turn)
 ended_again s e bytes = (ap (λ (t : Incoming). answer_in t.status) (ended_stays s e (part bytes)) ∙ ap answer_in e, rw e)
 
 -- what is not open stays
@@ -173,8 +171,8 @@ end_stays s c = go s.status refl
     go Open e = by (finish s.machine (bytes_in s.line))
       where
         by : (o : Outcome) → behind_call (state s.machine [] (status_behind o)) c ≡ state s.machine [] (status_behind o)
-        by (out.Accepted t) = ended_stays (state s.machine [] Ended) refl c
-        by (out.Refused r) = refused_stays (state s.machine [] (Refused r)) r refl c
+        by (Ok t) = ended_stays (state s.machine [] Ended) refl c
+        by (Err r) = refused_stays (state s.machine [] (Refused r)) r refl c
     go (Refused r) e = refused_stays s r e c
     go Ended e = ended_stays s e c
 
@@ -210,7 +208,7 @@ fed_reached cs = rw (fed_is cs) (go (end_declared cs) (arrived (bytes_of cs)) (r
 -- ---- parts, and then the end: the answers taken together
 
 -- a refusal of the bytes so far is that of the whole-file check, whatever comes behind them
-pub refused_for_good : (a b : List ℕ) (r : Refusal) → (arrived a).status ≡ Refused r → check_file (a ++ b) ≡ out.Refused r
+pub refused_for_good : (a b : List ℕ) (r : Refusal) → (arrived a).status ≡ Refused r → check_file (a ++ b) ≡ Err r
 refused_for_good a b r e =
     let same : arrived (a ++ b) ≡ arrived a = arrive_joined start a b ∙ refused_stays (arrived a) r e (part b) in
     sym (end_is (a ++ b)) ∙ (ap (λ (s : Incoming). (end_call s).outcome) same ∙ (refused_again (arrived a) r e []).1)

@@ -1,10 +1,9 @@
 -- Files in parts: the state behind bytes is that behind the first of them, with the others as one more part. Assumes nothing.
-use Rattle.std.specs.Prelude.{◌≡◌, refl, Bool, true, false, not, cond, ◌&&◌, List, [], ◌∷◌, ◌++◌, ℕ, zero, suc, ◌-◌, ◌*◌, ◌/◌, ◌≤◌, ◌<◌, ltb, length, take, drop, replicate}
+use Rattle.std.specs.Prelude.{◌≡◌, refl, Bool, true, false, not, cond, ◌&&◌, List, [], ◌∷◌, ◌++◌, ℕ, zero, suc, ◌-◌, ◌*◌, ◌/◌, ◌≤◌, ◌<◌, ltb, length, take, drop, replicate, Err, Ok}
 use Rattle.std.proofs.Common.{sym, ◌∙◌, append-nil, append_assoc, arith, lt-ltb, ltb-true, length-append, length-drop, take-append-drop, length-take-le, take_all}
 use Rattle.std.proofs.lemmas.List.{take-append-le, drop-append-le}
 use Rattle.answer.specs.Rules.{no_line, refusal, refused_as, first_broken}
-use Rattle.answer.specs.declared.Answer.{Answer}
-use Rattle.answer.specs.declared.Answer.TheVariants as answer
+use Rattle.answer.specs.Rules.{Answer}
 use Rattle.layout.proofs.laws.Bytes.{and_right}
 use Rattle.checker.specs.Order.{ended}
 use Rattle.checker.specs.Line.{line_bytes, rules_of_line}
@@ -55,8 +54,8 @@ one_more m l long ls both more on = rw (whole_judged m l long) (go (step_of m l)
 
     go : (a : Answer) → (step_of m l).answer ≡ a → arrive t both ≡ unless_refused (steps t ls).answer (steps t ls).state (arrive (steps t ls).state more)
         → let x = unless a (steps t ls) (step_of m l) in unless_refused a t (arrive t both) ≡ unless_refused x.answer x.state (arrive x.state more)
-    go answer.Accepted q h = h
-    go (answer.Refused r) q h = rw q
+    go (Ok tt) q h = h
+    go (Err r) q h = rw q
 
 pub arrive_lines : (k : ℕ) (m : Checker) (a b : List ℕ) → length a ≡ k * line_bytes → let x = steps m (lines_of a) in
     arrive m (lines_of (a ++ b)) ≡ unless_refused x.answer x.state (arrive x.state (lines_of b))
@@ -74,13 +73,13 @@ arrive_lines (suc k) m a b e =
 
 -- any line at all is refused there, in the same way
 pub ended_refuses : (m : Checker) (l : List ℕ) → ended m.phase ≡ true
-    → step_of m l ≡ stepped m (cond (sound m) (answer.Refused (refusal 3 (line_of m) 0)) (refused_as 51 0))
+    → step_of m l ≡ stepped m (cond (sound m) (Err (refusal 3 (line_of m) 0)) (refused_as 51 0))
 unfolding step_of rules_of_line first_broken
 ended_refuses m l e = rw e (go (sound m))
   where
     go : (b : Bool)
-        → cond b (stepped m (answer.Refused (refusal 3 (line_of m) 0))) (stepped m (refused_as 51 0))
-        ≡ stepped m (cond b (answer.Refused (refusal 3 (line_of m) 0)) (refused_as 51 0))
+        → cond b (stepped m (Err (refusal 3 (line_of m) 0))) (stepped m (refused_as 51 0))
+        ≡ stepped m (cond b (Err (refusal 3 (line_of m) 0)) (refused_as 51 0))
     go true = refl
     go false = refl
 
@@ -91,7 +90,7 @@ unfolding arrive
 ended_arrives m l ls e = rw (ended_refuses m l e, e) (go (sound m))
   where
     go : (b : Bool)
-        → unless_refused (cond b (answer.Refused (refusal 3 (line_of m) 0)) (refused_as 51 0)) m (arrive m ls)
+        → unless_refused (cond b (Err (refusal 3 (line_of m) 0)) (refused_as 51 0)) m (arrive m ls)
         ≡ state m [] (cond b (Refused (refusal 3 (line_of m) 0)) (Refused (refusal 51 no_line 0)))
     go true = refl
     go false = refl
@@ -157,8 +156,8 @@ arrive_joined m a b =
   where
     go : (a : Answer) (t : Checker) (r : List ℕ) → length r < line_bytes
         → unless_refused a t (arrive t (lines_of (r ++ b))) ≡ on (unless_refused a t (arrive t (lines_of r))) b
-    go answer.Accepted t r less = rest_first t r b less
-    go (answer.Refused x) t r less = refl
+    go (Ok tt) t r less = rest_first t r b less
+    go (Err x) t r less = refl
 
 -- behind whole lines nothing waits
 pub none_waiting : (k : ℕ) (m : Checker) (a : List ℕ) → length a ≡ k * line_bytes → (arrive m (lines_of a)).line ≡ waiting []
@@ -167,5 +166,5 @@ none_waiting k m a e =
     rw (← (append-nil a), arrive_lines k m a [] e, no_lines) (go (steps m (lines_of a)).answer (steps m (lines_of a)).state)
   where
     go : (x : Answer) (t : Checker) → (unless_refused x t (state t [] Open)).line ≡ waiting []
-    go answer.Accepted t = refl
-    go (answer.Refused r) t = refl
+    go (Ok tt) t = refl
+    go (Err r) t = refl

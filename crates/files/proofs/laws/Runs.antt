@@ -1,18 +1,17 @@
 -- Many lines: bytes in parts, a file's lines, files joined, and a file as single calls. Assumes nothing.
-use Rattle.std.specs.Prelude.{◌≡◌, refl, ◌↔◌, ℕ, zero, suc, ◌*◌, ◌≤◌, ◌<◌, length, take, drop}
+use Rattle.std.specs.Prelude.{◌≡◌, refl, ◌↔◌, ℕ, zero, suc, ◌*◌, ◌≤◌, ◌<◌, length, take, drop, Err, Ok}
 use Rattle.std.proofs.Common.{sym, ap, ◌∙◌, subst, not-suc-le-zero, arith, length-append, length-drop, take-append-drop, drop_of_length-le, length-take-le, take_all}
 use mathlib.Core.List.{List, [], ◌∷◌, ◌++◌, flatten, append-nil}
 use Rattle.std.proofs.Math.Decide.{dec_le}
 use Rattle.std.proofs.lemmas.List.{take-append-le, drop-append-le}
-use Rattle.answer.specs.declared.Answer.{Answer}
-use Rattle.answer.specs.declared.Answer.TheVariants.{Accepted, Refused}
+use Rattle.answer.specs.Rules.{Answer}
 use Rattle.checker.specs.Line.{line_bytes}
 use Rattle.checker.specs.Machine.{start, step_of}
 use Rattle.files.specs.File.{Lines, empty, short, full, cut, lines_of, unless, steps, end_of, outcome, finish, check_file}
 use Rattle.checker.specs.Calls.{left}
 use Rattle.checker.specs.declared.Checker.{Checker}
 use Rattle.checker.specs.declared.Stepped.{Stepped}
-use Rattle.files.specs.declared.whole.Outcome.{Outcome}
+use Rattle.files.specs.File.{Outcome}
 
 -- the answers of calls
 unfoldable pub answers : Checker → List (List ℕ) → List Answer
@@ -126,8 +125,8 @@ steps_append s (l ∷ xs) ys = go (step_of s l).answer refl (steps_append (step_
     go : (a : Answer) → (step_of s l).answer ≡ a → on (xs ++ ys) ≡ unless (on xs).answer (steps (on xs).state ys) (on xs)
         → unless a (on (xs ++ ys)) (step_of s l)
         ≡ unless (unless a (on xs) (step_of s l)).answer (steps (unless a (on xs) (step_of s l)).state ys) (unless a (on xs) (step_of s l))
-    go Accepted e h = h
-    go (Refused r) e h = rw e
+    go (Ok tt) e h = h
+    go (Err r) e h = rw e
 
 -- ---- a file as single calls
 
@@ -144,8 +143,8 @@ steps_are_calls s (l ∷ ls) = go (step_of s l).answer refl (steps_are_calls (st
 
     go : (a : Answer) → (step_of s l).answer ≡ a → outcome on.answer (end_of on.state) ≡ end
         → outcome (unless a on (step_of s l)).answer (end_of (unless a on (step_of s l)).state) ≡ outcome a end
-    go Accepted e h = h
-    go (Refused r) e h = rw e
+    go (Ok tt) e h = h
+    go (Err r) e h = rw e
 
 -- the end of the input, and a whole file, are its lines one call each: the first refusal, or the end's outcome
 pub finish_is_calls : (s : Checker) (rest : List ℕ) → finish s rest ≡ first_of (answers s (lines_of rest)) (end_of (left s (lines_of rest)))

@@ -1,12 +1,11 @@
 -- When a file in parts is refused, and when not yet: what each answer says of the bytes so far, both ways. Assumes nothing.
-use Rattle.std.specs.Prelude.{◌≡◌, refl, ◌↔◌, Bool, true, false, cond, ℕ, ◌*◌, ◌≤◌, ◌<◌, length, take, drop, T}
+use Rattle.std.specs.Prelude.{◌≡◌, refl, ◌↔◌, Bool, true, false, cond, ℕ, ◌*◌, ◌≤◌, ◌<◌, length, take, drop, T, Err, Ok}
 use Rattle.std.proofs.Common.{sym, ap, ◌∙◌, subst, arith, length-append, length-take-le, take_all}
 use mathlib.Core.List.{List, [], ◌∷◌, ◌++◌, flatten, append-nil, append_assoc}
 use Rattle.std.proofs.lemmas.List.{take-append-le}
 use Rattle.answer.specs.Rules.{refusal}
 use Rattle.answer.specs.declared.Refusal.{Refusal}
-use Rattle.answer.specs.declared.Answer.{Answer}
-use Rattle.answer.specs.declared.Answer.TheVariants as answer
+use Rattle.answer.specs.Rules.{Answer}
 use Rattle.checker.specs.Order.{ended}
 use Rattle.checker.specs.Line.{line_bytes}
 use Rattle.checker.specs.Machine.{start, line_of, step_of}
@@ -60,7 +59,7 @@ ended_said {s} c [] ls h e = absurd (omega arith)
 ended_said {s} c (b ∷ l) ls h e = rw (ended_arrives s (b ∷ l) ls e, reached c) (refuses (behind_end [] b (l ++ flatten ls) refl here e refl))
 
 -- an accepted line in front
-one_more : {s : Checker} (l : List ℕ) {bytes : List ℕ} {x : Status} → (step_of s l).answer ≡ answer.Accepted → Reached s → Said (step_of s l).state bytes x → Said s (l ++ bytes) x
+one_more : {s : Checker} (l : List ℕ) {bytes : List ℕ} {x : Status} → (step_of s l).answer ≡ Ok tt → Reached s → Said (step_of s l).state bytes x → Said s (l ++ bytes) x
 unfolding flatten
 one_more {s} l a c (goes_on w) = goes_on (record {
   to = w.to;
@@ -91,8 +90,8 @@ said {s = s} c (full l {ls} long on) = go (ended s.phase) refl (said {s = (step_
 
     by : (a : Answer) → (step_of s l).answer ≡ a → ended s.phase ≡ false → Said t (flatten ls) (arrive t ls).status
         → Said s (l ++ flatten ls) (unless_refused a t (arrive t ls)).status
-    by answer.Accepted q e h = one_more l q c h
-    by (answer.Refused r) q e h = refuses (whole_line [] l (flatten ls) refl here long e ((line_refused s l (reached c) r).0 q))
+    by (Ok tt) q e h = one_more l q c h
+    by (Err r) q e h = refuses (whole_line [] l (flatten ls) refl here long e ((line_refused s l (reached c) r).0 q))
 
     go : (b : Bool) → ended s.phase ≡ b → Said t (flatten ls) (arrive t ls).status → Said s (l ++ flatten ls) (arrive s (l ∷ ls)).status
     go true e h = ended_said c l ls (omega arith) e
@@ -167,7 +166,7 @@ part_told a p all e = ap (λ (t : Taken). t.answer) (part_joined a p) ∙ ap ans
 -- a line is judged with the part that brings its last byte: before it the answer is to go on, from then on the refusal
 module _ {t : Checker} (earlier : List (List ℕ)) (line : List ℕ) (r : Refusal) (on : Through start earlier t) (long : length line ≡ line_bytes) (going : ended t.phase ≡ false)
     (b : Breaks t line r) where
-  pub not_before : (a p : List ℕ) (n : ℕ) → n < line_bytes → a ++ p ≡ flatten earlier ++ take n line → (part_call (arrived a) p).answer ≡ answer.Accepted
+  pub not_before : (a p : List ℕ) (n : ℕ) → n < line_bytes → a ++ p ≡ flatten earlier ++ take n line → (part_call (arrived a) p).answer ≡ Ok tt
   not_before a p n h all = part_told a p all ((open_exactly (flatten earlier ++ take n line)).1 (record {
     to = t;
     earlier = earlier;
@@ -178,13 +177,13 @@ module _ {t : Checker} (earlier : List (List ℕ)) (line : List ℕ) (r : Refusa
     going = λ k. going;
   }))
 
-  pub from_then_on : (a p later : List ℕ) → a ++ p ≡ flatten earlier ++ (line ++ later) → (part_call (arrived a) p).answer ≡ answer.Refused r
+  pub from_then_on : (a p later : List ℕ) → a ++ p ≡ flatten earlier ++ (line ++ later) → (part_call (arrived a) p).answer ≡ Err r
   from_then_on a p later all =
       part_told a p all ((refused_exactly (flatten earlier ++ (line ++ later)) r).1 (whole_line earlier line later refl on long going b))
 
 -- and 3 comes with the part that brings the first byte behind the file trailer, and with no empty one
 module _ {t : Checker} (earlier : List (List ℕ)) (on : Through start earlier t) (at : ended t.phase ≡ true) where
-  pub nothing_behind : (a p : List ℕ) → a ++ p ≡ flatten earlier → (part_call (arrived a) p).answer ≡ answer.Accepted
+  pub nothing_behind : (a p : List ℕ) → a ++ p ≡ flatten earlier → (part_call (arrived a) p).answer ≡ Ok tt
   nothing_behind a p all = part_told a p all ((open_exactly (flatten earlier)).1 (record {
     to = t;
     earlier = earlier;
@@ -196,7 +195,7 @@ module _ {t : Checker} (earlier : List (List ℕ)) (on : Through start earlier t
   }))
 
   pub first_behind : (a p : List ℕ) (b : ℕ) (later : List ℕ) → a ++ p ≡ flatten earlier ++ b ∷ later
-      → (part_call (arrived a) p).answer ≡ answer.Refused (refusal 3 (line_of t) 0)
+      → (part_call (arrived a) p).answer ≡ Err (refusal 3 (line_of t) 0)
   first_behind a p b later all =
       part_told a p all ((refused_exactly (flatten earlier ++ b ∷ later) (refusal 3 (line_of t) 0)).1 (behind_end earlier b later refl on at refl))
 
@@ -235,5 +234,5 @@ less_waits m (l ∷ ls) = go (waits m l) refl (step_of m l).answer (less_waits (
     go : (b : Bool) → waits m l ≡ b → (a : Answer) → length (bytes_in (arrive t ls).line) < line_bytes
         → length (bytes_in (cond b (state m l Open) (unless_refused a t (arrive t ls))).line) < line_bytes
     go true e a h = rw (bytes_waiting l) (waits_short m l e)
-    go false e answer.Accepted h = h
-    go false e (answer.Refused r) h = omega arith
+    go false e (Ok tt) h = h
+    go false e (Err r) h = omega arith

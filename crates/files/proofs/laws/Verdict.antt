@@ -1,10 +1,9 @@
 -- What the answer to a whole file says, both ways: accepted, or refused and where. Assumes nothing.
-use Rattle.std.specs.Prelude.{◌≡◌, refl, ◌↔◌, Bool, true, false, cond, List, [], ◌∷◌, ◌++◌, ℕ, suc, ◌+◌, ◌≤◌, length, T}
+use Rattle.std.specs.Prelude.{◌≡◌, refl, ◌↔◌, Bool, true, false, cond, List, [], ◌∷◌, ◌++◌, ℕ, suc, ◌+◌, ◌≤◌, length, T, Err, Ok}
 use Rattle.std.proofs.Common.{sym, ap, ◌∙◌, subst, arith}
 use Rattle.answer.specs.Rules.{AllKept, refusal}
 use Rattle.answer.specs.declared.Refusal.{Refusal}
-use Rattle.answer.specs.declared.Answer.{Answer}
-use Rattle.answer.specs.declared.Answer.TheVariants as answer
+use Rattle.answer.specs.Rules.{Answer}
 use Rattle.layout.specs.declared.Record.{Record}
 use Rattle.checker.specs.Order.{ended}
 use Rattle.checker.specs.Totals.{add}
@@ -15,8 +14,7 @@ use Rattle.checker.specs.Calls.{Reached, at_start, after_line, Through, here, fu
 use Rattle.checker.specs.declared.totals.Totals.{Totals}
 use Rattle.checker.specs.declared.Checker.{Checker}
 use Rattle.checker.specs.declared.Stepped.{Stepped}
-use Rattle.files.specs.declared.whole.Outcome.{Outcome}
-use Rattle.files.specs.declared.whole.Outcome.TheVariants.{Accepted, Refused}
+use Rattle.files.specs.File.{Outcome}
 use Rattle.checker.proofs.laws.Sums.{next_counts}
 use Rattle.checker.proofs.laws.Listed.{numbered, line_listed, broken_listed}
 use Rattle.checker.proofs.laws.Meaning.{Breaks, line_accepted, line_refused, kept_line, line_moves}
@@ -43,7 +41,7 @@ pub through_reached : {s t : Checker} {ls : List (List ℕ)} → Reached s → T
 through_reached c here = c
 through_reached c (further {l = l} k on) = through_reached (after_line l c) on
 
-pub through_steps : {s t : Checker} {ls : List (List ℕ)} → Reached s → Through s ls t → steps s ls ≡ stepped t answer.Accepted
+pub through_steps : {s t : Checker} {ls : List (List ℕ)} → Reached s → Through s ls t → steps s ls ≡ stepped t (Ok tt)
 unfolding steps
 through_steps c here = refl
 through_steps c (further {s} {l = l} k on) = rw ((line_accepted s l (reached c)).1 k) (through_steps (after_line l c) on)
@@ -59,10 +57,10 @@ through_lines (further {s} {l = l} k on) = full l (kept_line s l k).1.long (thro
 
 -- ---- what is said of a file determines its outcome
 
-passed_accepted : {s : Checker} (ls : List (List ℕ)) (t : Totals) → Reached s → Passed s ls t → whole s ls ≡ Accepted t
+passed_accepted : {s : Checker} (ls : List (List ℕ)) (t : Totals) → Reached s → Passed s ls t → whole s ls ≡ Ok t
 passed_accepted ls t c p = rw (through_steps c p.through, end_never_guarded (through_reached c p.through), p.at_end, p.counted)
 
-stopped_refused : {s : Checker} (ls : List (List ℕ)) (r : Refusal) → Reached s → Stopped s ls r → whole s ls ≡ Refused r
+stopped_refused : {s : Checker} (ls : List (List ℕ)) (r : Refusal) → Reached s → Stopped s ls r → whole s ls ≡ Err r
 unfolding steps
 stopped_refused {s} ls r c (at_line {t} earlier later l e on b) =
     rw (e, steps_append s earlier (l ∷ later), through_steps c on, (line_refused t l (reached (through_reached c on)) r).1 b)
@@ -71,13 +69,13 @@ stopped_refused ls r c (at_end on lacks e) = rw (through_steps c on, end_never_g
 -- ---- and one of the two is said
 
 data Described (s : Checker) (ls : List (List ℕ)) : Outcome → Type 0 where
-  passed : {t : Totals} → Passed s ls t → Described s ls (Accepted t)
-  stopped : {r : Refusal} → Stopped s ls r → Described s ls (Refused r)
+  passed : {t : Totals} → Passed s ls t → Described s ls (Ok t)
+  stopped : {r : Refusal} → Stopped s ls r → Described s ls (Err r)
 
 at_the_end : {s : Checker} → Reached s → Described s [] (end_of s)
 at_the_end {s} c = rw (end_never_guarded c) (go (ended s.phase) refl)
   where
-    go : (b : Bool) → ended s.phase ≡ b → Described s [] (cond b (Accepted s.closed) (Refused (refusal 2 (line_of s) 0)))
+    go : (b : Bool) → ended s.phase ≡ b → Described s [] (cond b (Ok s.closed) (Err (refusal 2 (line_of s) 0)))
     go true e = passed (record { to = s; through = here; at_end = e; counted = refl })
     go false e = stopped (at_end here e refl)
 
@@ -96,32 +94,32 @@ described {s = s} (l ∷ ls) c = go (step_of s l).answer refl (described {s = (s
 
     go : (a : Answer) → (step_of s l).answer ≡ a → Described (step_of s l).state ls (outcome on.answer (end_of on.state))
         → Described s (l ∷ ls) (outcome (unless a on (step_of s l)).answer (end_of (unless a on (step_of s l)).state))
-    go answer.Accepted e d = one_more ((line_accepted s l (reached c)).0 e) d
-    go (answer.Refused r) e d = rw e (stopped (at_line [] ls l refl here ((line_refused s l (reached c) r).0 e)))
+    go (Ok tt) e d = one_more ((line_accepted s l (reached c)).0 e) d
+    go (Err r) e d = rw e (stopped (at_line [] ls l refl here ((line_refused s l (reached c) r).0 e)))
 
-was_passed : {s : Checker} {ls : List (List ℕ)} {o : Outcome} → Described s ls o → (t : Totals) → o ≡ Accepted t → Passed s ls t
+was_passed : {s : Checker} {ls : List (List ℕ)} {o : Outcome} → Described s ls o → (t : Totals) → o ≡ Ok t → Passed s ls t
 was_passed {s} {ls} (passed p) t e = subst (Passed s ls) (cc) p
 was_passed (stopped x) t e = accepted_refused (sym e)
 
-was_stopped : {s : Checker} {ls : List (List ℕ)} {o : Outcome} → Described s ls o → (r : Refusal) → o ≡ Refused r → Stopped s ls r
+was_stopped : {s : Checker} {ls : List (List ℕ)} {o : Outcome} → Described s ls o → (r : Refusal) → o ≡ Err r → Stopped s ls r
 was_stopped (passed p) r e = accepted_refused e
 was_stopped {s} {ls} (stopped x) r e = subst (Stopped s ls) (cc) x
 
 -- ---- the end of the input, and a whole file
 
 module _ {s : Checker} (c : Reached s) (rest : List ℕ) where
-  pub accepted_rest : (t : Totals) → finish s rest ≡ Accepted t ↔ Passed s (lines_of rest) t
+  pub accepted_rest : (t : Totals) → finish s rest ≡ Ok t ↔ Passed s (lines_of rest) t
   unfolding finish
   accepted_rest t = (was_passed (described (lines_of rest) c) t, passed_accepted (lines_of rest) t c)
 
-  pub refused_rest : (r : Refusal) → finish s rest ≡ Refused r ↔ Stopped s (lines_of rest) r
+  pub refused_rest : (r : Refusal) → finish s rest ≡ Err r ↔ Stopped s (lines_of rest) r
   unfolding finish
   refused_rest r = (was_stopped (described (lines_of rest) c) r, stopped_refused (lines_of rest) r c)
 
-pub accepted_file : (file : List ℕ) (t : Totals) → check_file file ≡ Accepted t ↔ Passed start (lines_of file) t
+pub accepted_file : (file : List ℕ) (t : Totals) → check_file file ≡ Ok t ↔ Passed start (lines_of file) t
 accepted_file file = accepted_rest at_start file
 
-pub refused_file : (file : List ℕ) (r : Refusal) → check_file file ≡ Refused r ↔ Stopped start (lines_of file) r
+pub refused_file : (file : List ℕ) (r : Refusal) → check_file file ≡ Err r ↔ Stopped start (lines_of file) r
 refused_file file = refused_rest at_start file
 
 -- ---- the line that a refusal names: one more than the lines accepted before it
@@ -144,7 +142,7 @@ line_named on = omega (arith, through_line_no at_start on)
 
 -- ---- the number that a file is refused with
 
-pub file_number : (file : List ℕ) (r : Refusal) → check_file file ≡ Refused r → (1 ≤ r.number) × T (numbered r.number)
+pub file_number : (file : List ℕ) (r : Refusal) → check_file file ≡ Err r → (1 ≤ r.number) × T (numbered r.number)
 file_number file r e = go ((refused_file file r).0 e)
   where
     go : Stopped start (lines_of file) r → (1 ≤ r.number) × T (numbered r.number)

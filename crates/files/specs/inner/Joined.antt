@@ -1,7 +1,6 @@
 -- What comes to an unfinished line, and how a file stands. Assumes nothing.
-use Rattle.std.specs.Prelude.{◌≡◌, ◌⊎◌, Bool, true, false, List, ◌++◌, ℕ, ◌+◌, ◌≤◌, ◌<◌, length, take, drop}
-use Rattle.answer.specs.declared.Answer.{Answer}
-use Rattle.answer.specs.declared.Answer.TheVariants as answer
+use Rattle.std.specs.Prelude.{◌≡◌, ◌⊎◌, Bool, true, false, List, ◌++◌, ℕ, ◌+◌, ◌≤◌, ◌<◌, length, take, drop, Err, Ok}
+use Rattle.answer.specs.Rules.{Answer}
 use Rattle.checker.specs.Line.{line_bytes}
 use Rattle.files.specs.Parts.{bytes_in}
 use Rattle.files.specs.declared.unfinished.Unfinished.{Unfinished}
@@ -28,5 +27,5 @@ is_open (Refused r) = false
 is_open Ended = false
 
 abbrev pub status_by : Answer → Status
-status_by answer.Accepted = Open
-status_by (answer.Refused r) = Refused r
+status_by (Ok tt) = Open
+status_by (Err r) = Refused r

@@ -1,6 +1,6 @@
 -- What the writer fills: numbers, each at its index; every other number, and the text, is the caller's. Assumes nothing.
-use Rattle.std.specs.Prelude.{◌≡◌, refl, Bool, true, false, cond, ◌||◌, List, [], ◌∷◌, ℕ, ◌+◌, ◌<◌, eqb, length, get_or, set}
-use Rattle.std.proofs.Common.{ap₂, ◌∙◌, arith, eqb-true, lit≤, length-set, get_or-set_same, get_or-set_other}
+use Rattle.std.specs.Prelude.{◌≡◌, refl, Bool, true, false, cond, ◌||◌, List, [], ◌∷◌, ℕ, ◌+◌, ◌<◌, eqb, length, get_or, set, None, Option, Some}
+use Rattle.std.proofs.Common.{◌∙◌, arith, eqb-true, lit≤, length-set, get_or-set_same, get_or-set_other}
 use Rattle.std.proofs.lemmas.Bool.{eqb-false}
 use Rattle.layout.specs.Table.{fields_of}
 use Rattle.layout.specs.Names.{before, index_of}
@@ -11,9 +11,7 @@ use Rattle.layout.specs.declared.shapes.LineType.TheVariants.{FileFirst, BatchFi
 use Rattle.layout.specs.Records.{shape_of}
 use Rattle.layout.proofs.laws.Indexes.{number-index}
 use Rattle.checker.specs.Totals.{batch_count, record_count, cent_sum}
-use Rattle.fields.specs.Values.{most_fields, number_if, nth}
-use Rattle.digits.specs.declared.spelling.Number.{Number}
-use Rattle.digits.specs.declared.spelling.Number.TheVariants.{Is}
+use Rattle.fields.specs.Values.{most_fields, nth}
 use Rattle.fields.specs.declared.Fields.{Fields}
 use Rattle.checker.specs.Line.{ordinal, header_batch, trailer_batch}
 use Rattle.checker.specs.declared.Checker.{Checker}
@@ -54,9 +52,9 @@ abbrev pub fills_at : List Fill → ℕ → Bool
 fills_at [] j = false
 fills_at (f ∷ fs) j = eqb j f.index || fills_at fs j
 
-abbrev pub number_from : List Fill → ℕ → Number → Number
+abbrev pub number_from : List Fill → ℕ → Option ℕ → Option ℕ
 number_from [] j m = m
-number_from (f ∷ fs) j m = cond (eqb j f.index) (Is f.number) (number_from fs j m)
+number_from (f ∷ fs) j m = cond (eqb j f.index) (Some f.number) (number_from fs j m)
 
 -- ---- one behind the other
 
@@ -65,37 +63,32 @@ record Filled (v u : Fields) (fs : List Fill) : Type 0 where
   which : u.which ≡ v.which
   text : u.text ≡ v.text
   long : length u.numbers ≡ length v.numbers
-  flagged : length u.given ≡ length v.given
   others : (j : ℕ) → fills_at fs j ≡ false → nth j u ≡ nth j v
   each : Whole v → (j : ℕ) → nth j u ≡ number_from fs j (nth j v)
 
 unfilled : {v : Fields} → Filled v v []
-unfilled = record { which = refl; text = refl; long = refl; flagged = refl; others = λ j e. refl; each = λ h j. refl }
+unfilled = record { which = refl; text = refl; long = refl; others = λ j e. refl; each = λ h j. refl }
 
 neither : (a b : Bool) → (a || b) ≡ false → (a ≡ false) × (b ≡ false)
 neither true b e = (e, cc)
 neither false b e = (refl, e)
 
 put : {v u : Fields} {fs : List Fill} {i n : ℕ} → i < most_fields → Filled v u fs
-    → Filled v (record { which = u.which; numbers = set u.numbers i n; given = set u.given i true; text = u.text }) (fill i n ∷ fs)
+    → Filled v (record { which = u.which; numbers = set u.numbers i (Some n); text = u.text }) (fill i n ∷ fs)
 put {v} {u} {fs} {i} {n} l b =
     record {
       which = b.which;
       text = b.text;
       long = simp length-set b.long;
-      flagged = simp length-set b.flagged;
       others = λ j e. let f = neither (eqb j i) (fills_at fs j) e in other j f.0 ∙ b.others j f.1;
       each = λ h j. go h j (eqb j i) refl;
     }
   where
-    other : (j : ℕ) → eqb j i ≡ false → number_if (get_or (set u.given i true) j false) (get_or (set u.numbers i n) j 0) ≡ nth j u
-    other j e = ap₂ number_if (get_or-set_other u.given i j true false (eqb-false j i e)) (get_or-set_other u.numbers i j n 0 (eqb-false j i e))
+    other : (j : ℕ) → eqb j i ≡ false → get_or (set u.numbers i (Some n)) j None ≡ nth j u
+    other j e = get_or-set_other u.numbers i j (Some n) None (eqb-false j i e)
 
-    go : Whole v → (j : ℕ) (t : Bool) → eqb j i ≡ t
-        → number_if (get_or (set u.given i true) j false) (get_or (set u.numbers i n) j 0) ≡ cond t (Is n) (number_from fs j (nth j v))
-    go h j true e =
-        rw (eqb-true j i e)
-        (ap₂ number_if (get_or-set_same u.given i true false (omega (arith, b.flagged, h.given))) (get_or-set_same u.numbers i n 0 (omega (arith, b.long, h.numbers))))
+    go : Whole v → (j : ℕ) (t : Bool) → eqb j i ≡ t → get_or (set u.numbers i (Some n)) j None ≡ cond t (Some n) (number_from fs j (nth j v))
+    go h j true e = rw (eqb-true j i e) (get_or-set_same u.numbers i (Some n) None (omega (arith, b.long, h.numbers)))
     go h j false e = other j e ∙ b.each h j
 
 is_filled : (r : Record) (s : Checker) (v : Fields) → Filled v (filled r s v) (fills_in r s)

@@ -1,5 +1,5 @@
 -- Bytes compared, looked through and copied, one at a time. Assumes nothing.
-use Rattle.std.specs.Prelude.{◌≡◌, refl, Bool, true, false, cond, ◌&&◌, ◌||◌, List, [], ◌∷◌, ◌++◌, ℕ, zero, suc, ◌-◌, ◌≤◌, ◌<◌, eqb, length, get_or, take, drop, set, replicate}
+use Rattle.std.specs.Prelude.{◌≡◌, refl, Bool, true, false, cond, ◌&&◌, ◌||◌, List, [], ◌∷◌, ◌++◌, ℕ, zero, suc, ◌-◌, ◌≤◌, ◌<◌, min, eqb, length, get_or, take, drop, set, replicate, None, Option}
 use Rattle.std.proofs.Common.{sym, ap, ap₂, append_assoc, zero-le, suc-le-suc, arith, eqb-true, eq-eqb, ne_eqb, drop_of_length-le, take-append-drop, length-take, length-drop, drop-cons, take-suc-set, drop-set-lt}
 use Rattle.std.proofs.Math.Bool.{and-false, or-false}
 use Rattle.std.proofs.Math.Nat.{min-eq_left, sub-zero, zero-sub, suc-sub-suc}
@@ -7,8 +7,6 @@ use Rattle.std.proofs.lemmas.Bool.{eqb-false}
 use Rattle.std.proofs.Math.Dec.{eqb-suc-suc}
 use Rattle.digits.specs.Digits.{places, leading, all_digits}
 use Rattle.digits.specs.Numbers.{number_of}
-use Rattle.digits.specs.declared.spelling.Number.{Number}
-use Rattle.digits.specs.declared.spelling.Number.TheVariants.{Not}
 use Rattle.calendar.specs.Calendar.{number_fits}
 use Rattle.answer.specs.Output.{over}
 use Rattle.layout.specs.Pairs.{Pairs, pairs, among, batch_among, batch_of}
@@ -71,15 +69,15 @@ pub among_turn : (b : ℕ) (ds : List ℕ) (i : ℕ) → i < length ds → among
 among_turn b ds i h = rw (drop-cons ds i 0 h)
 
 -- without a number for the service or the form there is no batch
-pub no_service : (ps : List Pairs) (form : Number) → batch_among ps Not form ≡ Unknown
+pub no_service : (ps : List Pairs) (form : Option ℕ) → batch_among ps None form ≡ Unknown
 no_service [] form = refl
 no_service (p ∷ ps) form = no_service ps form
 
-pub no_form : (ps : List Pairs) (service : Number) → batch_among ps service Not ≡ Unknown
+pub no_form : (ps : List Pairs) (service : Option ℕ) → batch_among ps service None ≡ Unknown
 no_form [] service = refl
 no_form (p ∷ ps) service = rw (and-false (number_fits (λ n. eqb n p.service) service)) (no_form ps service)
 
-pub batch_is : (d : Direction) (service form : List ℕ) {s f : Number} → s ≡ number_of service → f ≡ number_of form → batch_among (pairs d) s f ≡ batch_of d service form
+pub batch_is : (d : Direction) (service form : List ℕ) {s f : Option ℕ} → s ≡ number_of service → f ≡ number_of form → batch_among (pairs d) s f ≡ batch_of d service form
 unfolding batch_of
 batch_is d service form p q = rw (p, q)
 
@@ -134,6 +132,14 @@ over_none (b ∷ bs) = refl
 
 pub over_end_out : (text out : List ℕ) (i : ℕ) → length out ≤ i → take i out ++ over (drop i text) (drop i out) ≡ out
 over_end_out text out i h = rw (drop_of_length-le out {i = i} h, over_none (drop i text), ← (drop_of_length-le out {i = i} h)) (take-append-drop i out)
+
+-- those that both have, and behind them what stood there
+pub over_is : (text out : List ℕ) (n : ℕ) → n ≡ min (length text) (length out) → take n text ++ drop n out ≡ over text out
+unfolding over
+over_is [] out n e = let z : n ≡ 0 = omega (arith, e) in rw z
+over_is (b ∷ bs) [] n e = let z : n ≡ 0 = omega (arith, e) in rw z
+over_is (b ∷ bs) (x ∷ out) zero e = absurd (omega (arith, e))
+over_is (b ∷ bs) (x ∷ out) (suc n) e = ap (λ (l : List ℕ). b ∷ l) (over_is bs out n (omega (arith, e)))
 
 -- as many bytes as there are
 pub over_all : (text out : List ℕ) → length text ≡ length out → over text out ≡ text

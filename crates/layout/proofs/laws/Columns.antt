@@ -1,18 +1,21 @@
 -- What ties the code's arrays to the table. Assumes nothing.
 use Rattle.std.specs.Prelude.{◌≡◌, refl, Bool, true, false, ◌&&◌, ℕ, zero, suc, ◌+◌, ◌-◌, ◌≤◌, ◌<◌, min, T, leb, eqb, length, get_or, take, drop}
-use Rattle.std.proofs.Common.{sym, ap, ◌∙◌, subst, lt-ltb, leb-true, leb-false, zero-add, suc-add, add_assoc, not-suc-le-zero, le_of_suc-le-suc, arith, leb→le, eqb→eq, length-take, length-append, drop_of_length-le, get_or-take, get_or-drop, take-take, drop-drop, take_all}
+use Rattle.std.proofs.Common.{sym, ap, ◌∙◌, subst, lt-ltb, le-ltb, leb-true, leb-false, zero-add, suc-add, add_assoc, not-suc-le-zero, le_of_suc-le-suc, arith, leb→le, eqb→eq, length-take, length-append, drop_of_length-le, get_or-take, get_or-drop, take-take, drop-drop, take_all}
 use Rattle.std.proofs.Math.Path.{subst⁻¹}
 use mathlib.Core.List.{List, [], ◌∷◌, ◌++◌}
-use Rattle.std.proofs.Math.ListN.{get_or-map}
+use Rattle.std.proofs.Math.ListN.{get_or-map, get_or-eq_default}
+use Rattle.std.proofs.Math.Decide.{dec_lt}
 use Rattle.std.proofs.Math.Seq.{slice, take-nil, take-length}
 use Rattle.digits.proofs.laws.Tests.{both}
-use Rattle.layout.specs.inner.Lent.{start_of, span_of, field_count, in_column, kind_of, Columns}
+use Rattle.layout.specs.inner.Lent.{start_of, span_of, field_count, in_column, entry_in, kind_of, field_of, Columns}
 use Rattle.layout.specs.Field.{Kind, Field, field, none}
 use Rattle.layout.specs.Table.{fields_of, type_field, segment_fields, fields_of_each, all}
 use Rattle.layout.specs.Records.{records, code, shape_of, is_detail}
 use Rattle.layout.proofs.laws.Tiling.{Inside, insides, All, join, at}
 use Rattle.layout.proofs.laws.Sound.{Sound, sounds}
+use Rattle.layout.specs.declared.table.Entry.{Entry}
 use Rattle.layout.specs.declared.table.Span.{Span}
+use Rattle.layout.specs.declared.table.Table.{Table}
 use Rattle.layout.specs.declared.Record.{Record}
 use Rattle.layout.specs.declared.Record.TheVariants.{FileHeader}
 use Rattle.layout.proofs.laws.Records.{each, tabled}
@@ -178,6 +181,9 @@ stands {f} e h =
     let i = subst⁻¹ Inside e (at_entry Inside insides f h) in
     record { is = e; low = i.low; order = i.order; high = i.high; may = (subst⁻¹ Sound e (at_entry Sound sounds f h)).may }
 
+pub entry_stands : (e : Entry) {f : ℕ} → field_of e ≡ get_or all f none → f < field_count → Stands f e.from e.to e.kind
+entry_stands e q h = stands q h
+
 agrees : (g : Field) {a b : ℕ} {k : Kind} → a ≡ g.from → b ≡ g.to → k ≡ g.kind → field a b k ≡ g
 agrees g p q r = λ i. record { from = p i; to = q i; kind = r i }
 
@@ -190,3 +196,11 @@ column {kind} c f h =
     (rw c.tos (get_or-map (λ (x : Field). x.to) all f none))
     (sym (get_or-map kind_of kind f 0) ∙ rw c.kinds_of (get_or-map (λ (x : Field). x.kind) all f none)))
     h)
+
+-- a table of these columns gives them, and past its end the field that stands for none
+pub entry_is : (t : Table) (f : ℕ) → Columns t.from t.to t.kind → field_of (entry_in t f) ≡ get_or all f none
+entry_is t f c = go (dec_lt f field_count)
+  where
+    go : Dec (f < field_count) → field_of (entry_in t f) ≡ get_or all f none
+    go (yes h) = (column c f h).is
+    go (no h) = rw (le-ltb f field_count (omega arith), get_or-eq_default all none {n = f} (rw all_length (omega arith)))

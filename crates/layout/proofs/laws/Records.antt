@@ -1,5 +1,5 @@
 -- What is asked of all records is asked of the table's, once. Assumes nothing.
-use Rattle.std.specs.Prelude.{◌≡◌, refl, Bool, true, false, ◌&&◌, ◌||◌, List, [], ◌∷◌, ℕ, zero, suc, ◌<◌, T, eqb, length, get_or}
+use Rattle.std.specs.Prelude.{◌≡◌, refl, Bool, true, false, ◌&&◌, ◌||◌, List, [], ◌∷◌, ℕ, zero, suc, ◌<◌, T, eqb, length, get_or, None, Option, Some}
 use Rattle.std.proofs.Common.{sym, ap, subst, ◌∙◌, not-suc-le-zero, le_of_suc-le-suc, arith, eqb-true, eq-eqb, eqb→eq, lit≤}
 use Rattle.answer.proofs.laws.Order.{never}
 use Rattle.digits.specs.Digits.{digit_byte}
@@ -8,7 +8,7 @@ use Rattle.layout.specs.Records.{shape_of, records, code, is_one_of, is_detail, 
 use Rattle.layout.specs.declared.Record.{Record}
 use Rattle.layout.specs.declared.Record.TheVariants.{FileHeader, BatchHeader, SegmentA, SegmentB, SegmentJ, SegmentJ52, SegmentZ, BatchTrailer, FileTrailer, SegmentO}
 use Rattle.layout.specs.declared.shapes.Amount.{Amount}
-use Rattle.layout.specs.declared.shapes.Amount.TheVariants.{NoAmount, AmountOfA, AmountOfJ, AmountOfO}
+use Rattle.layout.specs.declared.shapes.Amount.TheVariants.{OfA, OfJ, OfO}
 use Rattle.layout.specs.declared.shapes.LineType.{LineType}
 use Rattle.layout.specs.declared.shapes.LineType.TheVariants.{FileFirst, BatchFirst, Detail, BatchLast, FileLast}
 
@@ -79,23 +79,23 @@ by_type P file-header batch-header details batch_trailer file_trailer r = go (sh
 
 -- ---- and an amount is A's, J's or O's
 
-abbrev payer : Amount → Record → Record
-payer NoAmount r = r
-payer AmountOfA r = SegmentA
-payer AmountOfJ r = SegmentJ
-payer AmountOfO r = SegmentO
+abbrev payer : Option Amount → Record → Record
+payer None r = r
+payer (Some OfA) r = SegmentA
+payer (Some OfJ) r = SegmentJ
+payer (Some OfO) r = SegmentO
 
 paid_by : (r : Record) → payer (shape_of r).amount r ≡ r
 paid_by r = sym (same_code r _ (eqb→eq _ _ (each (λ r. eqb (code r) (code (payer (shape_of r).amount r))) tt r)))
 
-pub by_amount : (P : Record → Type 0) → ((r : Record) → (shape_of r).amount ≡ NoAmount → P r) → P SegmentA → P SegmentJ → P SegmentO → (r : Record) → P r
+pub by_amount : (P : Record → Type 0) → ((r : Record) → (shape_of r).amount ≡ None → P r) → P SegmentA → P SegmentJ → P SegmentO → (r : Record) → P r
 by_amount P without of_a of_j of_o r = go (shape_of r).amount refl
   where
-    go : (a : Amount) → (shape_of r).amount ≡ a → P r
-    go NoAmount e = without r e
-    go AmountOfA e = subst P (ap (λ (a : Amount). payer a r) (sym e) ∙ paid_by r) of_a
-    go AmountOfJ e = subst P (ap (λ (a : Amount). payer a r) (sym e) ∙ paid_by r) of_j
-    go AmountOfO e = subst P (ap (λ (a : Amount). payer a r) (sym e) ∙ paid_by r) of_o
+    go : (a : Option Amount) → (shape_of r).amount ≡ a → P r
+    go None e = without r e
+    go (Some OfA) e = subst P (ap (λ (a : Option Amount). payer a r) (sym e) ∙ paid_by r) of_a
+    go (Some OfJ) e = subst P (ap (λ (a : Option Amount). payer a r) (sym e) ∙ paid_by r) of_j
+    go (Some OfO) e = subst P (ap (λ (a : Option Amount). payer a r) (sym e) ∙ paid_by r) of_o
 
 -- a detail, by the byte of its type
 pub detail_line : (r : Record) → type_of r ≡ digit_byte 3 → (shape_of r).line ≡ Detail

@@ -3,7 +3,7 @@ use Rattle.std.specs.Prelude.{◌≡◌, Bool, true, cond, ◌&&◌, List, [], �
 use Rattle.digits.specs.Digits.{digit_byte}
 use Rattle.digits.specs.inner.Rows.{tab}
 use Rattle.ids.specs.Ids.{cnpj_characters}
-use Rattle.layout.specs.Field.{Kind, N, NOrBlank, Id, T, F, D, Time, K, O, Zeros, Exact, OneOf, Service, Form, Barcode, Code, RecordType, Segment, Field}
+use Rattle.layout.specs.Field.{Kind, N, NOrBlank, Id, T, F, D, Time, K, O, Zeros, Exact, OneOf, Service, Form, Barcode, Code, RecordType, Segment, Field, field}
 use Rattle.layout.specs.Table.{fields_of, zero_one_two, zero_nine, one_two, exact_c, exact09, exact52, fields_of_each, all}
 use Rattle.layout.specs.Records.{code, records}
 use Rattle.layout.specs.Kinds.{Held, a_number, as_bytes, as_fixed, means, blank}
@@ -13,6 +13,7 @@ use Rattle.layout.specs.declared.kinds.Fill.{Fill}
 use Rattle.layout.specs.declared.kinds.Fill.TheVariants.{Number, Text, Fixed}
 use Rattle.layout.specs.declared.table.Entry.{Entry}
 use Rattle.layout.specs.declared.table.Span.{Span}
+use Rattle.layout.specs.declared.table.Table.{Table}
 use Rattle.layout.specs.declared.Record.{Record}
 
 -- ---- the records one after the other
@@ -27,12 +28,12 @@ span_of r = record { first = start_of r; past = start_of r + length (fields_of r
 abbrev pub field_count : ℕ
 field_count = 159
 
--- what stands at f in a column, and in three; past their end 0
+-- what stands at f in a column, and in a table; past their end 0
 abbrev pub in_column : List ℕ → ℕ → ℕ
 in_column column f = cond (ltb f field_count) (get_or column f 0) 0
 
-abbrev pub entry_in : List ℕ → List ℕ → List ℕ → ℕ → Entry
-entry_in from to kind f = record { from = in_column from f; to = in_column to f; kind = in_column kind f }
+abbrev pub entry_in : Table → ℕ → Entry
+entry_in t f = record { from = in_column t.from f; to = in_column t.to f; kind = in_column t.kind f }
 
 -- ---- kinds by number
 
@@ -65,6 +66,10 @@ is_mark n = leb first_mark n && leb n last_mark
 
 abbrev pub kind_of : ℕ → Kind
 kind_of n = cond (is_mark n) (cond (ltb n first_letter) (RecordType n) (Segment n)) (get_or kinds n F)
+
+-- the field that an entry is
+abbrev pub field_of : Entry → Field
+field_of e = field e.from e.to (kind_of e.kind)
 
 -- a width that a field of a kind may have: a registration number has room for a CNPJ, exact content has one width, and a domain is of one byte
 abbrev pub may_be : Kind → ℕ → Bool

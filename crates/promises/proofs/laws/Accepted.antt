@@ -1,12 +1,11 @@
 -- A file is accepted exactly if it meets the grammar, with the totals that the grammar counts. Assumes nothing.
-use Rattle.std.specs.Prelude.{◌≡◌, ◌↔◌, List, ℕ}
+use Rattle.std.specs.Prelude.{◌≡◌, ◌↔◌, List, ℕ, Ok}
 use Rattle.std.proofs.Common.{sym, subst}
 use Rattle.checker.specs.Machine.{start}
 use Rattle.files.specs.File.{lines_of, check_file}
 use Rattle.files.proofs.laws.Runs.{lines_joined, lines_are}
 use Rattle.files.proofs.laws.Verdict.{Passed, through_lines, accepted_file}
 use Rattle.checker.specs.declared.totals.Totals.{Totals}
-use Rattle.files.specs.declared.whole.Outcome.TheVariants.{Accepted}
 use Rattle.promises.specs.Grammar.{RightFile, Meets}
 use Rattle.promises.proofs.laws.Build.{built}
 use Rattle.promises.proofs.laws.Parse.{parsed}
@@ -28,5 +27,5 @@ passes : {bytes : List ℕ} {t : Totals} → Meets bytes t → Passed start (lin
 passes {t = t} m = subst (λ (ls : List (List ℕ)). Passed start ls t) (lines_back m) (built m.file)
 
 -- the theorem: accepted with these totals exactly if it meets the grammar with them
-pub accepted_exactly : (bytes : List ℕ) (t : Totals) → check_file bytes ≡ Accepted t ↔ Meets bytes t
+pub accepted_exactly : (bytes : List ℕ) (t : Totals) → check_file bytes ≡ Ok t ↔ Meets bytes t
 accepted_exactly bytes t = (λ e. meets ((accepted_file bytes t).0 e), λ m. (accepted_file bytes t).1 (passes m))

@@ -1,6 +1,6 @@
 -- Files that are accepted, computed: the paper's own of one credit of 100.00, a return of credits and boletos, with Z, and
 -- that return with payments withdrawn. Assumes nothing.
-use Rattle.std.specs.Prelude.{◌≡◌, refl, Bool, true, false, ◌&&◌, List, ◌++◌, ℕ, ◌+◌, ◌-◌, ◌*◌, eqb, length, take, drop}
+use Rattle.std.specs.Prelude.{◌≡◌, refl, Bool, true, false, ◌&&◌, List, ◌++◌, ℕ, ◌+◌, ◌-◌, ◌*◌, eqb, length, take, drop, Err, Ok}
 use Prim.Native.String.{String}
 use Rattle.answer.specs.Rules.{first_broken}
 use Rattle.answer.specs.declared.Refusal.{Refusal}
@@ -18,13 +18,12 @@ use Rattle.checker.specs.Totals.{tally, no_payments, live, withdrawn, totals, ad
 use Rattle.checker.specs.Line.{line_bytes, line_from, within, boleto_rules, rules_of_type, rules_as, type_rules, line_rules, rules_of_line}
 use Rattle.checker.specs.Machine.{sound, step_of}
 use Rattle.files.specs.File.{cut, steps, end_of, finish, check_file}
-use Rattle.files.specs.declared.whole.Outcome.{Outcome}
-use Rattle.files.specs.declared.whole.Outcome.TheVariants.{Accepted, Refused}
+use Rattle.files.specs.File.{Outcome}
 use Rattle.promises.specs.Guarded.{changed}
 
 abbrev pub is_accepted : Outcome → Bool
-is_accepted (Accepted t) = true
-is_accepted (Refused r) = false
+is_accepted (Ok t) = true
+is_accepted (Err r) = false
 
 -- a refusal with this number, at this line and place
 abbrev pub is_at : ℕ → ℕ → ℕ → Refusal → Bool
@@ -45,7 +44,7 @@ credit_file =
     ++ line_from (bytes "08500015         000004000000000000010000000000000000000000000000                                                                                                                                                                               ")
     ++ line_from (bytes "08599999         000001000006000000                                                                                                                                                                                                             ")
 
-pub credit-file : check_file credit_file ≡ Accepted (totals 1 6 (live (tally 1 10000)) (withdrawn no_payments))
+pub credit-file : check_file credit_file ≡ Ok (totals 1 6 (live (tally 1 10000)) (withdrawn no_payments))
 unfolding first_broken leading every_byte weighed counts lift check_digit characters_fit id_fits number_of exists date_fits time_fits same batch_of rules_of clean fields_of cut steps end_of finish within rules_of_type rules_as type_rules line_rules rules_of_line sound step_of add
 credit-file = refl
 
@@ -68,7 +67,7 @@ return_file =
     ++ line_from (bytes "08500025         000007000000000000071160000000000000000000000000                                                                                                                                                                               ")
     ++ line_from (bytes "08599999         000002000016000000                                                                                                                                                                                                             ")
 
-pub return-file : check_file return_file ≡ Accepted (totals 2 16 (live (tally 4 476150)) (withdrawn no_payments))
+pub return-file : check_file return_file ≡ Ok (totals 2 16 (live (tally 4 476150)) (withdrawn no_payments))
 unfolding first_broken leading every_byte weighed counts lift check_digit characters_fit id_fits number_of exists date_fits time_fits days_of_years day_number due_days folded factor_of same batch_of rules_of clean fields_of cut steps end_of finish within boleto_rules rules_of_type rules_as type_rules line_rules rules_of_line sound step_of add
 return-file = refl
 
@@ -76,6 +75,6 @@ return-file = refl
 abbrev pub withdrawn_file : List ℕ
 withdrawn_file = changed (changed return_file 5 movement_field.from (digit_byte withdrawal)) 11 movement_field.from (digit_byte withdrawal)
 
-pub withdrawn-file : check_file withdrawn_file ≡ Accepted (totals 2 16 (live (tally 2 364725)) (withdrawn (tally 2 111425)))
+pub withdrawn-file : check_file withdrawn_file ≡ Ok (totals 2 16 (live (tally 2 364725)) (withdrawn (tally 2 111425)))
 unfolding first_broken leading every_byte weighed counts lift check_digit characters_fit id_fits number_of exists date_fits time_fits days_of_years day_number due_days folded factor_of same batch_of rules_of clean fields_of cut steps end_of finish within boleto_rules rules_of_type rules_as type_rules line_rules rules_of_line sound step_of add
 withdrawn-file = refl

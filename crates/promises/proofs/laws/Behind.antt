@@ -1,5 +1,5 @@
 -- Lines on the way to the end of an accepted file: each is taken, and the direction is that of the file header. Assumes nothing.
-use Rattle.std.specs.Prelude.{◌≡◌, refl, true, ◌⊎◌, ℕ, get_or}
+use Rattle.std.specs.Prelude.{◌≡◌, refl, true, ◌⊎◌, ℕ, get_or, Some}
 use Rattle.std.proofs.Common.{sym, ap, ◌∙◌, inl, inr, arith}
 use Rattle.std.proofs.Math.Path.{subst}
 use mathlib.Core.List.{List, [], ◌∷◌, ◌++◌}
@@ -14,7 +14,6 @@ use Rattle.checker.specs.Order.{ended}
 use Rattle.checker.specs.Line.{record_in, line_is}
 use Rattle.checker.specs.Machine.{start, direction_of, next, step_of}
 use Rattle.checker.specs.Calls.{Reached, after_line, Through, here, further, left}
-use Rattle.checker.specs.declared.order.Reading.TheVariants.{Line}
 use Rattle.layout.specs.declared.shapes.Phase.TheVariants.{Start}
 use Rattle.checker.specs.declared.Checker.{Checker}
 use Rattle.checker.proofs.laws.Edges.{follows_by, type_read}
@@ -31,7 +30,7 @@ pub record Ends (s : Checker) (ls : List (List ℕ)) : Type 0 where
 
 -- the first line, read as r, and the others
 pub record Goes (r : Record) (s : Checker) (l : List ℕ) (ls : List (List ℕ)) : Type 0 where
-  pub read : line_is s (record_in l) ≡ Line r
+  pub read : line_is s (record_in l) ≡ Some r
   pub follows : Follows s.dir s.batch s.phase r
   pub typed : place type_place (record_in l) ≡ type_of r
   pub fitting : Fits r s l
@@ -79,7 +78,7 @@ first heads = refl
 first (pays x _) = elim x [ ]
 
 -- a line is the file header, or goes by the direction of the first line
-pub by_first : (xs ys : List (List ℕ)) (rec : List ℕ) {r : Record} → Ends start (xs ++ ys) → line_is (left start xs) rec ≡ Line r
+pub by_first : (xs ys : List (List ℕ)) (rec : List ℕ) {r : Record} → Ends start (xs ++ ys) → line_is (left start xs) rec ≡ Some r
     → (r ≡ FileHeader) ⊎ ((left start xs).dir ≡ direction_of (record_in (get_or (xs ++ ys) 0 [])))
 unfolding left
 by_first [] ys rec e q = inl (first (follows_by start rec q))

@@ -1,5 +1,5 @@
 -- Demand 3: an accepted file with another byte at a guarded place is refused. Assumes nothing.
-use Rattle.std.specs.Prelude.{◌≡◌, refl, ◌≢◌, ◌⊎◌, ℕ, zero, suc, ◌+◌, ◌*◌, ◌-◌, ◌≤◌, ◌<◌, length, get_or, take, drop, set}
+use Rattle.std.specs.Prelude.{◌≡◌, refl, ◌≢◌, ◌⊎◌, ℕ, zero, suc, ◌+◌, ◌*◌, ◌-◌, ◌≤◌, ◌<◌, length, get_or, take, drop, set, Err, Ok, Some}
 use Rattle.std.proofs.Common.{sym, ap, ◌∙◌, subst, inl, inr, arith, length-take, length-drop, length-set, length-append, take-append-drop, length-take-le, take_at, take-take, get_or-take, drop-set-lt, get_or-set_same}
 use mathlib.Core.List.{List, [], ◌∷◌, ◌++◌, flatten}
 use Rattle.std.proofs.Math.Decide.{dec_le}
@@ -20,11 +20,9 @@ use Rattle.checker.specs.Calls.{at_start, left}
 use Rattle.checker.proofs.laws.Details.{asked, detail_of}
 use Rattle.files.proofs.laws.Runs.{no_lines, next_line, lines_append, lines_joined}
 use Rattle.files.proofs.laws.Verdict.{Passed, accepted_file}
-use Rattle.checker.specs.declared.order.Reading.TheVariants.{Line}
 use Rattle.checker.specs.declared.totals.Totals.{Totals}
 use Rattle.checker.specs.declared.Checker.{Checker}
-use Rattle.files.specs.declared.whole.Outcome.{Outcome}
-use Rattle.files.specs.declared.whole.Outcome.TheVariants.{Accepted, Refused}
+use Rattle.files.specs.File.{Outcome}
 use Rattle.promises.specs.Grammar.{RightLine}
 use Rattle.promises.specs.Guarded.{On, In, LetterGuarded, Guarded, line-end, first_eight, detail_number, letter, fixed, credit-amount, boleto_values, boleto-amount, collection-amount, batch_trailer, file_trailer, barcode, line_at, GuardedIn, changed}
 use Rattle.promises.proofs.laws.Facts.{either_direction}
@@ -220,12 +218,12 @@ split_changed n p b file at h =
 -- ---- the theorem
 
 -- an accepted file's lines lead to the end
-ends_at : (file : List ℕ) (t : Totals) (ls : List (List ℕ)) → check_file file ≡ Accepted t → lines_of file ≡ ls → Ends start ls
+ends_at : (file : List ℕ) (t : Totals) (ls : List (List ℕ)) → check_file file ≡ Ok t → lines_of file ≡ ls → Ends start ls
 ends_at file t ls e q =
     let h = subst (λ (x : List (List ℕ)). Passed start x t) q ((accepted_file file t).0 e) in
     record { reached = at_start; to = h.to; through = h.through; at_end = h.at_end }
 
-not_both_accepted : (file : List ℕ) (t t' : Totals) (n p b : ℕ) → check_file file ≡ Accepted t → check_file (changed file n p b) ≡ Accepted t'
+not_both_accepted : (file : List ℕ) (t t' : Totals) (n p b : ℕ) → check_file file ≡ Ok t → check_file (changed file n p b) ≡ Ok t'
     → GuardedIn file n p → b ≢ place p (line_at n file) → ⊥
 not_both_accepted file t t' n p b e e' g ne =
     let at = counted g.guarded in
@@ -234,16 +232,16 @@ not_both_accepted file t t' n p b e e' g ne =
     let l = line_at n file in
     let whole = ends_at file t _ e (split n file h) in
     let other = ends_at (changed file n p b) t' _ e' (split_changed n p b file at g.inside) in
-    let read : line_is (left start xs) (record_in l) ≡ Line g.which = rw (take_earlier n file h) at g.read in
+    let read : line_is (left start xs) (record_in l) ≡ Some g.which = rw (take_earlier n file h) at g.read in
     let found = goes (behind _ xs whole) in
     let same : found.0 ≡ g.which = cc (found.1.read, read) in
     let dirs = rw (first_record n file h) at (by_first xs _ (record_in l) whole read) in
     not_both l p b (goes_as l same found.1) (goes (behind _ xs other)).1 (rw (take_earlier n file h) at g.guarded) ne dirs
 
-pub change_refused : (file : List ℕ) (t : Totals) (n p b : ℕ) → check_file file ≡ Accepted t → GuardedIn file n p → b ≢ place p (line_at n file)
-    → (r : Refusal) × (check_file (changed file n p b) ≡ Refused r)
+pub change_refused : (file : List ℕ) (t : Totals) (n p b : ℕ) → check_file file ≡ Ok t → GuardedIn file n p → b ≢ place p (line_at n file)
+    → (r : Refusal) × (check_file (changed file n p b) ≡ Err r)
 change_refused file t n p b e g ne = go (check_file (changed file n p b)) refl
   where
-    go : (o : Outcome) → check_file (changed file n p b) ≡ o → (r : Refusal) × (check_file (changed file n p b) ≡ Refused r)
-    go (Accepted t') q = absurd (not_both_accepted file t t' n p b e q g ne)
-    go (Refused r) q = (r, q)
+    go : (o : Outcome) → check_file (changed file n p b) ≡ o → (r : Refusal) × (check_file (changed file n p b) ≡ Err r)
+    go (Ok t') q = absurd (not_both_accepted file t t' n p b e q g ne)
+    go (Err r) q = (r, q)

@@ -1,6 +1,6 @@
 -- Files of collections, computed: a water bill; a return with an O of no cents, and why the letter of such an O is not guarded in a return; and
 -- what is refused where. Assumes nothing.
-use Rattle.std.specs.Prelude.{◌≡◌, refl, true, List, [], ◌∷◌, ◌++◌, ℕ, T, get_or}
+use Rattle.std.specs.Prelude.{◌≡◌, refl, true, List, [], ◌∷◌, ◌++◌, ℕ, T, get_or, Ok}
 use Rattle.answer.specs.Rules.{accepts, first_broken}
 use Rattle.digits.specs.Digits.{bytes, leading, every_byte, weighed}
 use Rattle.digits.specs.Numbers.{number_of}
@@ -19,7 +19,6 @@ use Rattle.checker.specs.Totals.{tally, no_payments, live, withdrawn, totals, ad
 use Rattle.checker.specs.Line.{line_from, record_in, within, collection_rules, rules_of_type, rules_as, type_rules, line_rules, rules_of_line}
 use Rattle.checker.specs.Machine.{sound, step_of}
 use Rattle.files.specs.File.{cut, steps, end_of, finish, check_file, lines_of}
-use Rattle.files.specs.declared.whole.Outcome.TheVariants.{Accepted}
 use Rattle.promises.specs.Guarded.{changed}
 use Rattle.promises.proofs.laws.AcceptedFiles.{credit_file}
 use Rattle.promises.proofs.laws.Trials.{put, with_all, Changed, right, wrong, every_file}
@@ -32,7 +31,7 @@ collection_file =
     ++ line_from (bytes "08500015         000003000000000000018742000000000000000000000000                                                                                                                                                                               ")
     ++ line_from (bytes "08599999         000001000005000000                                                                                                                                                                                                             ")
 
-pub collection-file : check_file collection_file ≡ Accepted (totals 1 5 (live (tally 1 18742)) (withdrawn no_payments))
+pub collection-file : check_file collection_file ≡ Ok (totals 1 5 (live (tally 1 18742)) (withdrawn no_payments))
 unfolding first_broken leading every_byte weighed counts lift check_digit characters_fit id_fits number_of exists date_fits time_fits same batch_of rules_of clean fields_of cut steps end_of finish within collection_rules modulus_of rules_of_type rules_as type_rules line_rules rules_of_line sound step_of add
 collection-file = refl
 
@@ -46,12 +45,12 @@ zero_cents_file =
     ++ line_from (bytes "08500015         000004000000000000018742000000000000000000000000                                                                                                                                                                               ")
     ++ line_from (bytes "08599999         000001000006000000                                                                                                                                                                                                             ")
 
-pub zero-cents-file : check_file zero_cents_file ≡ Accepted (totals 1 6 (live (tally 2 18742)) (withdrawn no_payments))
+pub zero-cents-file : check_file zero_cents_file ≡ Ok (totals 1 6 (live (tally 2 18742)) (withdrawn no_payments))
 unfolding first_broken leading every_byte weighed counts lift check_digit characters_fit id_fits number_of exists date_fits time_fits same batch_of rules_of clean fields_of cut steps end_of finish within collection_rules modulus_of rules_of_type rules_as type_rules line_rules rules_of_line sound step_of add
 zero-cents-file = refl
 
 -- the second O (lines counted from 0) read as a Z: the trailers are right all the same, with one payment less
-pub as_z : check_file (changed zero_cents_file 3 segment_place letter_z) ≡ Accepted (totals 1 6 (live (tally 1 18742)) (withdrawn no_payments))
+pub as_z : check_file (changed zero_cents_file 3 segment_place letter_z) ≡ Ok (totals 1 6 (live (tally 1 18742)) (withdrawn no_payments))
 unfolding first_broken leading every_byte weighed counts lift check_digit characters_fit id_fits number_of exists date_fits time_fits same batch_of rules_of clean fields_of cut steps end_of finish within collection_rules modulus_of rules_of_type rules_as type_rules line_rules rules_of_line sound step_of add
 as_z = refl
 

@@ -1,12 +1,11 @@
 -- Two lists of bytes that differ at one place: a part that does not hold the place is the same in both, and one that is the same does not hold it.
 -- Assumes nothing.
-use Rattle.std.specs.Prelude.{◌≡◌, ◌≢◌, true, List, ℕ, ◌+◌, ◌-◌, ◌≤◌, ◌<◌, length, get_or, drop, set}
+use Rattle.std.specs.Prelude.{◌≡◌, ◌≢◌, true, List, ℕ, ◌+◌, ◌-◌, ◌≤◌, ◌<◌, length, get_or, drop, set, Some}
 use Rattle.std.proofs.Common.{sym, ap, ◌∙◌, arith, eqb-true, le-leb, length-set, length-take, length-drop, get_or-take, get_or-drop, get_or-set_same, get_or-set_other, ext_get_or}
 use Rattle.digits.specs.Digits.{all_digits, place}
 use Rattle.digits.specs.Numbers.{most_digits, number_of, value}
 use Rattle.digits.proofs.laws.Strings.{part_get_or, leading_all}
 use Rattle.digits.proofs.laws.Numerals.{number_inj, given}
-use Rattle.digits.specs.declared.spelling.Number.TheVariants.{Is}
 use Rattle.layout.specs.Field.{Field, part}
 use Rattle.layout.specs.Kinds.{is_fixed}
 use Rattle.layout.proofs.laws.Bytes.{same_true}
@@ -33,7 +32,7 @@ stored p b xs h k ne = record {
 -- ---- bytes of one length that are the same
 
 -- they give one number
-pub reads_same : (bs cs : List ℕ) {k : ℕ} → length bs ≡ length cs → number_of bs ≡ Is k → number_of cs ≡ Is k → bs ≡ cs
+pub reads_same : (bs cs : List ℕ) {k : ℕ} → length bs ≡ length cs → number_of bs ≡ Some k → number_of cs ≡ Some k → bs ≡ cs
 reads_same bs cs {k} e p q =
     let g = given bs k p in
     let h = given cs k q in

@@ -1,5 +1,5 @@
 -- A line that the checker takes, as facts: it is right by itself, its fields read what the state counts, and the limit holds. Assumes nothing.
-use Rattle.std.specs.Prelude.{◌≡◌, List, ◌∷◌, ◌++◌, ℕ, ◌≤◌, length, get_or, drop}
+use Rattle.std.specs.Prelude.{◌≡◌, List, ◌∷◌, ◌++◌, ℕ, ◌≤◌, length, get_or, drop, Some}
 use Rattle.std.proofs.Common.{sym, ap, subst, ◌∙◌, arith, eqb-true, le-leb, length-append, length-take, length-drop, take-append-drop, get_or-drop}
 use Rattle.answer.specs.Rules.{AllKept}
 use Rattle.digits.specs.Digits.{place}
@@ -21,7 +21,6 @@ use Rattle.checker.proofs.laws.Details.{asked, AllRead}
 use Rattle.checker.specs.inner.Following.{Limit}
 use Rattle.checker.proofs.laws.Asks.{bank_digits, record_fits, record_kept}
 use Rattle.checker.proofs.laws.Reached.{reached}
-use Rattle.checker.specs.declared.order.Reading.TheVariants.{Line}
 use Rattle.checker.specs.declared.Checker.{Checker}
 use Rattle.writer.proofs.laws.TakesLine.{carriage-return, line-feed}
 use Rattle.promises.specs.Grammar.{RightLine, Reads}
@@ -58,7 +57,7 @@ fits {s} {l} {r} a =
       limit = b.limit;
     }
 
-line_as : {s : Checker} {l : List ℕ} {r : Record} → line_is s (record_in l) ≡ Line r → Fits r s l → LineAs r s l
+line_as : {s : Checker} {l : List ℕ} {r : Record} → line_is s (record_in l) ≡ Some r → Fits r s l → LineAs r s l
 line_as {s} {l} {r} read f =
     let q = f.right in
     record {
@@ -72,14 +71,14 @@ line_as {s} {l} {r} read f =
 
 pub record Taken (s : Checker) (l : List ℕ) : Type 0 where
   pub by : Record
-  pub read : line_is s (record_in l) ≡ Line by
+  pub read : line_is s (record_in l) ≡ Some by
   pub fitting : Fits by s l
   pub moves : (step_of s l).state ≡ next by s (record_in l)
 
 pub taken : {s : Checker} {l : List ℕ} → Reached s → AllKept (rules_of_line s l) → Taken s l
 taken {s} {l} c k = let (r, a) = kept_line s l k in record { by = r; read = a.read; fitting = fits a; moves = line_moves s l (reached c) a }
 
-pub takes : {s t : Checker} {r : Record} {l : List ℕ} {ls : List (List ℕ)} → Reached s → line_is s (record_in l) ≡ Line r → Fits r s l
+pub takes : {s t : Checker} {r : Record} {l : List ℕ} {ls : List (List ℕ)} → Reached s → line_is s (record_in l) ≡ Some r → Fits r s l
     → Through (next r s (record_in l)) ls t → Through s (l ∷ ls) t
 takes {s} {t} {r} {l} {ls} c read f on =
     let a = line_as read f in

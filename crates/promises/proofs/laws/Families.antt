@@ -1,6 +1,6 @@
 -- How every call ends: of the checker in any state that calls lead to, of the checker in parts and of the writer behind any calls, with one
 -- record, and with digit strings; one statement for each. Assumes nothing.
-use Rattle.std.specs.Prelude.{◌≡◌, ◌≢◌, Bool, cond}
+use Rattle.std.specs.Prelude.{◌≡◌, ◌≢◌, Bool, cond, Err, Ok}
 use Rattle.std.proofs.Math.Path.{refl, sym, ap}
 use Rattle.std.proofs.Common.{◌∙◌, subst, inl, inr, arith}
 use Rattle.std.proofs.Math.Bool.{true, false}
@@ -13,12 +13,12 @@ use Rattle.answer.proofs.laws.Order.{never, broken_refused}
 use Rattle.answer.proofs.laws.Only.{Only, join}
 use Rattle.answer.specs.declared.LineNo.{LineNo}
 use Rattle.answer.specs.declared.Refusal.{Refusal}
-use Rattle.answer.specs.declared.Answer.{Answer}
-use Rattle.answer.specs.declared.Answer.TheVariants.{Accepted, Refused}
+use Rattle.answer.specs.Rules.{Answer}
 use Rattle.layout.specs.Record.{record_rules}
 use Rattle.layout.specs.declared.Direction.{Direction}
 use Rattle.layout.specs.declared.Record.{Record}
-use Rattle.fields.specs.Values.{record_of, read_record}
+use Rattle.fields.specs.Values.{record_of, fields_in, fields_if, read_record}
+use Rattle.fields.specs.declared.Fields.{Fields}
 use Rattle.checker.specs.Order.{ended}
 use Rattle.checker.specs.Line.{record_in, rules_of_line}
 use Rattle.checker.specs.Machine.{start, line_of, sound, stepped, answer_to, step_of}
@@ -33,10 +33,10 @@ use Rattle.files.proofs.laws.Ends.{end_never_guarded}
 use Rattle.files.proofs.laws.Verdict.{Stopped, at_line, at_end, refused_file, through_line_no}
 use Rattle.files.proofs.laws.Arrivals.{part_joined, never_ended, shut, machine_left, end_machine, end_is, end_status, fed_is, fed_reached}
 use Rattle.files.proofs.laws.Told.{Stops, whole_line, behind_end, refused_exactly, part_line}
+use Rattle.checker.specs.declared.totals.Totals.{Totals}
 use Rattle.checker.specs.declared.Checker.{Checker}
 use Rattle.checker.specs.declared.Stepped.{Stepped}
-use Rattle.files.specs.declared.whole.Outcome.{Outcome}
-use Rattle.files.specs.declared.whole.Outcome.TheVariants as outcome
+use Rattle.files.specs.File.{Outcome}
 use Rattle.files.specs.declared.incoming.Status.{Status}
 use Rattle.files.specs.declared.incoming.Status.TheVariants.{Open}
 use Rattle.files.specs.declared.incoming.Status.TheVariants as closed
@@ -59,9 +59,9 @@ use Rattle.promises.proofs.laws.Tabled.{Alone, tested, record-rules, line-rules,
 
 -- a call that such rules answer, and that leaves what it might change where they refuse
 by_rules : {A : Type 0} {before after : A} {rules : List Rule} → Only Alone rules → (a : Answer) → a ≡ first_broken rules
-    → ((r : Refusal) → a ≡ Refused r → after ≡ before) → Ends before after OnNoLine a
-by_rules tabled Accepted e kept = accepted
-by_rules tabled (Refused r) e kept = let t = tabled.broken r (sym e) in refused t.1 t.0 (kept r refl)
+    → ((r : Refusal) → a ≡ Err r → after ≡ before) → Ends before after OnNoLine a
+by_rules tabled (Ok tt) e kept = accepted
+by_rules tabled (Err r) e kept = let t = tabled.broken r (sym e) in refused t.1 t.0 (kept r refl)
 
 -- a call that only checks, and one that writes
 checks : {rules : List Rule} → Only Alone rules → Ends nothing nothing OnNoLine (first_broken rules)
@@ -73,19 +73,24 @@ unfolding table
 writes {n} {out} {a} tabled w = by_rules (join tabled (tested (room n out ∷ []) tt)) a w.answered (λ r e. w.memory ∙ rw e)
 
 -- the same end, of what the call might change and leaves
-with_state : {A : Type 0} {before after : A} {B : Type 0} {x y : B} {L : ℕ → Type 0} (a : Answer) → Ends x y L a → ((r : Refusal) → a ≡ Refused r → after ≡ before)
+with_state : {A : Type 0} {before after : A} {B : Type 0} {x y : B} {L : ℕ → Type 0} (a : Answer) → Ends x y L a → ((r : Refusal) → a ≡ Err r → after ≡ before)
     → Ends before after L a
-with_state Accepted e kept = accepted
-with_state (Refused r) (refused t on k) kept = refused t on (kept r refl)
+with_state (Ok tt) e kept = accepted
+with_state (Err r) (refused t on k) kept = refused t on (kept r refl)
 
 -- ---- one record, and digit strings
+
+-- a read ends as its check does
+reads : (a : Answer) (v : Fields) → Ends nothing nothing OnNoLine a → Concludes OnNoLine (fields_if a v)
+reads (Ok tt) v e = accepted
+reads (Err r) v (refused t on k) = refused t on
 
 -- calls with one record of any kind, in either direction
 pub record_calls : (r : Record) (d : Direction) → RecordCalls r d
 unfolding read_record
 record_calls r d = record {
   check = λ rec. checks (record-rules r d rec);
-  read = λ rec. by_rules (record-rules r d rec) (first_broken (record_rules r d rec)) refl (λ x e. rw e);
+  read = λ rec. reads (first_broken (record_rules r d rec)) (fields_in r rec) (checks (record-rules r d rec));
   write = λ v w. writes (record-rules r d (record_of r v)) w;
 }
 
@@ -113,8 +118,8 @@ module _ {s : Checker} (c : Reached s) where
   line_ends l = rw (never_guarded c l) (go (first_broken (rules_of_line s l)) refl)
     where
       go : (a : Answer) → first_broken (rules_of_line s l) ≡ a → Ends s (answer_to a s (record_in l)).state (λ n. n ≡ (line_of s).0) (answer_to a s (record_in l)).answer
-      go Accepted e = accepted
-      go (Refused r) e = refused ((line-rules s l).broken r e).1 refl refl
+      go (Ok tt) e = accepted
+      go (Err r) e = refused ((line-rules s l).broken r e).1 refl refl
 
   -- a refusal where lines stop: at one of them, or behind the last
   stopped : (ls : List (List ℕ)) (r : Refusal) → Stopped s ls r → InTable r × OneOfNext (suc (length ls)) s r.line.0
@@ -130,7 +135,7 @@ module _ {s : Checker} (c : Reached s) where
   unfolding table
   end_ends = rw (end_never_guarded c) (go (ended s.phase))
     where
-      go : (b : Bool) → Concludes (λ n. n ≡ (line_of s).0) (cond b (outcome.Accepted s.closed) (outcome.Refused (refusal 2 (line_of s) 0)))
+      go : (b : Bool) → Concludes (λ n. n ≡ (line_of s).0) (cond b (Ok s.closed) (Err (refusal 2 (line_of s) 0)))
       go true = accepted
       go false = refused tt refl
 
@@ -139,8 +144,8 @@ pub file_calls : FileCalls
 file_calls file = go (check_file file) refl
   where
     go : (o : Outcome) → check_file file ≡ o → Concludes (OneOfNext (suc (length (lines_of file))) start) o
-    go (outcome.Accepted t) e = accepted
-    go (outcome.Refused r) e = let k = stopped at_start (lines_of file) r ((refused_file file r).0 e) in refused k.0 k.1
+    go (Ok t) e = accepted
+    go (Err r) e = let k = stopped at_start (lines_of file) r ((refused_file file r).0 e) in refused k.0 k.1
 
 -- no public function gives another state
 pub states_reached : OnlyReached
@@ -166,15 +171,15 @@ any_line s l = go (sound s) (first_broken (rules_of_line s l)) refl
 
     go : (b : Bool) (a : Answer) → first_broken (rules_of_line s l) ≡ a
         → Ends s (cond b (answer_to a s (record_in l)) guard).state (NextOrNone s) (cond b (answer_to a s (record_in l)) guard).answer
-    go true Accepted e = accepted
-    go true (Refused r) e = refused ((line-rules s l).broken r e).1 (inl refl) refl
+    go true (Ok tt) e = accepted
+    go true (Err r) e = refused ((line-rules s l).broken r e).1 (inl refl) refl
     go false a e = refused tt (inr refl) refl
 
 any_end : (s : Checker) → Concludes (NextOrNone s) (end_of s)
 unfolding table end_of
 any_end s = go (sound s) (ended s.phase)
   where
-    go : (b e : Bool) → Concludes (NextOrNone s) (cond b (cond e (outcome.Accepted s.closed) (outcome.Refused (refusal 2 (line_of s) 0))) (outcome.Refused (refusal 51 no_line 0)))
+    go : (b e : Bool) → Concludes (NextOrNone s) (cond b (cond e (Ok s.closed) (Err (refusal 2 (line_of s) 0))) (Err (refusal 51 no_line 0)))
     go true true = accepted
     go true false = refused tt (inl refl)
     go false e = refused tt (inr refl)
@@ -212,8 +217,8 @@ any_lines s (l ∷ ls) = go (step_of s l).answer refl (any_lines (step_of s l).s
 
     go : (a : Answer) → (step_of s l).answer ≡ a → Ends nothing nothing (NextOrNone on.state) on.answer
         → Ends nothing nothing (NextOrNone (unless a on (step_of s l)).state) (unless a on (step_of s l)).answer
-    go Accepted e k = k
-    go (Refused r) e k = rw (line-leaves s l r e) (with_state (step_of s l).answer (any_line s l) (λ x q. refl))
+    go (Ok tt) e k = k
+    go (Err r) e k = rw (line-leaves s l r e) (with_state (step_of s l).answer (any_line s l) (λ x q. refl))
 
 any_rest : (s : Checker) (rest : List ℕ) → Concludes (NextOrNone (steps s (lines_of rest)).state) (finish s rest)
 unfolding finish
@@ -223,11 +228,11 @@ any_rest s rest = go (steps s (lines_of rest)) (any_lines s (lines_of rest))
     go x e = by x.answer e
       where
         by : (a : Answer) → Ends nothing nothing (NextOrNone x.state) a → Concludes (NextOrNone x.state) (outcomeOf a (end_of x.state))
-        by Accepted k = any_end x.state
-        by (Refused r) (refused t on k) = refused t on
+        by (Ok tt) k = any_end x.state
+        by (Err r) (refused t on k) = refused t on
 
 -- a refusal of the whole file, which the end tells
-refused_at_end : (bytes : List ℕ) (r : Refusal) → check_file bytes ≡ outcome.Refused r → InTable r × (r.line.0 ≡ (line_of (arrived bytes).machine).0)
+refused_at_end : (bytes : List ℕ) (r : Refusal) → check_file bytes ≡ Err r → InTable r × (r.line.0 ≡ (line_of (arrived bytes).machine).0)
 refused_at_end bytes r e = rw (machine_left bytes) (go (check_file bytes) e (any_rest start bytes) (file_calls bytes))
   where
     m : Checker
@@ -240,10 +245,10 @@ refused_at_end bytes r e = rw (machine_left bytes) (go (check_file bytes) e (any
     next (inl q) k = q
     next (inr q) k = absurd (omega (arith, k.0))
 
-    by : Concludes (NextOrNone m) (outcome.Refused r) → Concludes (OneOfNext many start) (outcome.Refused r) → InTable r × (r.line.0 ≡ (line_of m).0)
+    by : Concludes {A = Totals} (NextOrNone m) (Err r) → Concludes {A = Totals} (OneOfNext many start) (Err r) → InTable r × (r.line.0 ≡ (line_of m).0)
     by (refused t on) (refused u among) = (t, next on among)
 
-    go : (o : Outcome) → o ≡ outcome.Refused r → Concludes (NextOrNone m) o → Concludes (OneOfNext many start) o → InTable r × (r.line.0 ≡ (line_of m).0)
+    go : (o : Outcome) → o ≡ Err r → Concludes (NextOrNone m) o → Concludes (OneOfNext many start) o → InTable r × (r.line.0 ≡ (line_of m).0)
     go o q k l = by (rw q at k) (rw q at l)
 
 -- how a part's call ends
@@ -258,8 +263,8 @@ module _ (bytes : List ℕ) where
   not_ended_line closed.Ended ne e = absurd (ne refl)
 
   whole_ends : (o : Outcome) → check_file bytes ≡ o → Concludes (LineIn (arrived bytes).status (arrived bytes).machine) o
-  whole_ends (outcome.Accepted t) e = accepted
-  whole_ends (outcome.Refused r) e =
+  whole_ends (Ok t) e = accepted
+  whole_ends (Err r) e =
       let k = refused_at_end bytes r e in
       refused k.0 (not_ended_line (arrived bytes).status (never_ended start (lines_of bytes)) k.1)
 
@@ -275,9 +280,9 @@ module _ (bytes : List ℕ) where
   abbrev over : Incoming
   over = (end_call (arrived bytes)).state
 
-  by_outcome : (o : Outcome) (r : Refusal) → status_behind o ≡ closed.Refused r → o ≡ outcome.Refused r
-  by_outcome (outcome.Accepted t) r e = refused_ended (sym e)
-  by_outcome (outcome.Refused x) r e = cc
+  by_outcome : (o : Outcome) (r : Refusal) → status_behind o ≡ closed.Refused r → o ≡ Err r
+  by_outcome (Ok t) r e = refused_ended (sym e)
+  by_outcome (Err x) r e = cc
 
   named : (r : Refusal) → over.status ≡ closed.Refused r → InTable r × (r.line.0 ≡ (line_of over.machine).0)
   named r e = rw (end_machine (arrived bytes)) (refused_at_end bytes r (by_outcome (check_file bytes) r (sym (end_status bytes) ∙ e)))
@@ -286,8 +291,8 @@ module _ (bytes : List ℕ) where
   not_open e = go (check_file bytes) (sym (end_status bytes) ∙ e)
     where
       go : (o : Outcome) → status_behind o ≡ Open → ⊥
-      go (outcome.Accepted t) q = open_ended (sym q)
-      go (outcome.Refused r) q = open_refused (sym q)
+      go (Ok t) q = open_ended (sym q)
+      go (Err r) q = open_refused (sym q)
 
   ends_again : (x : Status) → over.status ≡ x → Concludes (LineIn x over.machine) (with_end x over).outcome
   unfolding table
@@ -326,8 +331,8 @@ module _ {w : Writer} (ok : held w.checker ≡ true) where
   call_ends {c} {out} {after} {x} whole k = go x.answer refl
     where
       go : (a : Answer) → x.answer ≡ a → Ends {A = Writer × List ℕ} (w, out) (x.state, after) (OneOfNext (length (records_of c)) w.checker) a
-      go Accepted e = accepted
-      go (Refused r) e =
+      go (Ok tt) e = accepted
+      go (Err r) e =
           let q = sym k.answered ∙ e in
           let same = refused_leaves k r e in
           refused ((call-rules w c out whole).broken r q) (placed (refused_line w c out r q)) (λ i. (same.0 i, same.1 i))

@@ -1,7 +1,7 @@
 -- Two lines at one state that differ at one place, both on the way to the end, are read as one record, if the place is no letter or the letter is
 -- guarded. Assumes nothing.
 use Rattle.std.proofs.Math.Path.{◌≡◌, subst, subst⁻¹}
-use Rattle.std.specs.Prelude.{refl, ◌≢◌, List, ℕ, length, take, drop}
+use Rattle.std.specs.Prelude.{refl, ◌≢◌, List, ℕ, length, take, drop, None}
 use Rattle.std.proofs.Common.{sym, ap, ◌∙◌, lit≤, take-take}
 use native.Mathlib.Omega.{arith}
 use Rattle.std.proofs.Math.Decide.{ℕ_discrete}
@@ -10,7 +10,6 @@ use Rattle.answer.specs.Rules.{AllKept}
 use Rattle.answer.proofs.laws.Order.{never}
 use Rattle.digits.specs.Digits.{digit_byte, leading, place}
 use Rattle.digits.specs.Numbers.{number_of}
-use Rattle.digits.specs.declared.spelling.Number.TheVariants.{Not}
 use Rattle.layout.specs.Field.{Field, part, field, K}
 use Rattle.layout.specs.Records.{type_of, letter_z}
 use Rattle.layout.specs.Table.{type_place, segment_place, fields_of, batch_field, number_field}
@@ -85,7 +84,7 @@ two ends ends = one refl
 -- ---- what the lines show
 
 -- a batch trailer has blanks where a detail has its number
-blank_number : {dir : Direction} (l : List ℕ) → RightLine BatchTrailer dir l → number_of (part number_field (record_in l)) ≡ Not
+blank_number : {dir : Direction} (l : List ℕ) → RightLine BatchTrailer dir l → number_of (part number_field (record_in l)) ≡ None
 unfolding fields_of AllKept number_of leading
 blank_number l a =
     let bs = part (field 9 17 K) (record_in l) in

@@ -1,5 +1,5 @@
 -- Lines that are accepted one after the other, each read as its record. Assumes nothing.
-use Rattle.std.specs.Prelude.{◌≡◌, refl, true, List, [], ◌∷◌, ◌++◌, ℕ, zero, suc, ◌<◌, length, get_or, take}
+use Rattle.std.specs.Prelude.{◌≡◌, refl, true, List, [], ◌∷◌, ◌++◌, ℕ, zero, suc, ◌<◌, length, get_or, take, Some}
 use Rattle.std.proofs.Common.{ap, arith}
 use Rattle.answer.specs.Rules.{AllKept}
 use Rattle.layout.specs.declared.Record.{Record}
@@ -9,7 +9,6 @@ use Rattle.checker.specs.Line.{record_in, line_is, rules_of_line}
 use Rattle.checker.specs.Machine.{step_of}
 use Rattle.checker.specs.Calls.{Through, left}
 use Rattle.checker.specs.Calls as calls
-use Rattle.checker.specs.declared.order.Reading.TheVariants.{Line}
 use Rattle.checker.specs.declared.totals.Totals.{Totals}
 use Rattle.checker.specs.declared.Checker.{Checker}
 
@@ -17,7 +16,7 @@ use Rattle.checker.specs.declared.Checker.{Checker}
 pub data ThroughAs : Checker → List (List ℕ) → List Record → Checker → Type 0 where
   here : {s : Checker} → ThroughAs s [] [] s
   further : {s t : Checker} {l : List ℕ} {ls : List (List ℕ)} {r : Record} {rs : List Record}
-      → AllKept (rules_of_line s l) → line_is s (record_in l) ≡ Line r → ThroughAs (step_of s l).state ls rs t → ThroughAs s (l ∷ ls) (r ∷ rs) t
+      → AllKept (rules_of_line s l) → line_is s (record_in l) ≡ Some r → ThroughAs (step_of s l).state ls rs t → ThroughAs s (l ∷ ls) (r ∷ rs) t
 
 -- up to the file's end, with these totals
 pub record PassedAs (s : Checker) (ls : List (List ℕ)) (rs : List Record) (t : Totals) : Type 0 where
@@ -27,7 +26,7 @@ pub record PassedAs (s : Checker) (ls : List (List ℕ)) (rs : List Record) (t :
   pub counted : t ≡ to.closed
 
 -- one line
-pub one_as : {s : Checker} {l : List ℕ} {t : Checker} {r : Record} → line_is s (record_in l) ≡ Line r → Through s (l ∷ []) t → ThroughAs s (l ∷ []) (r ∷ []) t
+pub one_as : {s : Checker} {l : List ℕ} {t : Checker} {r : Record} → line_is s (record_in l) ≡ Some r → Through s (l ∷ []) t → ThroughAs s (l ∷ []) (r ∷ []) t
 one_as e (calls.further k calls.here) = further k e here
 
 -- lines behind others
@@ -48,7 +47,7 @@ as_many (further k e on) = ap suc (as_many on)
 
 -- each line is read as its record, behind the lines before it
 pub read_as : {s t : Checker} {ls : List (List ℕ)} {rs : List Record} → ThroughAs s ls rs t → (n : ℕ) → n < length ls
-    → line_is (left s (take n ls)) (record_in (get_or ls n [])) ≡ Line (get_or rs n FileHeader)
+    → line_is (left s (take n ls)) (record_in (get_or ls n [])) ≡ Some (get_or rs n FileHeader)
 unfolding left
 read_as here n h = absurd (omega arith)
 read_as (further k e on) zero h = e

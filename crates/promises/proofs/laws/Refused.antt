@@ -1,5 +1,5 @@
 -- A file is refused with a number, a line and a place exactly if that line is the first to break a rule, and that rule the first it breaks. Assumes nothing.
-use Rattle.std.specs.Prelude.{◌≡◌, ◌↔◌, List, ℕ, ◌+◌, length}
+use Rattle.std.specs.Prelude.{◌≡◌, ◌↔◌, List, ℕ, ◌+◌, length, Err}
 use Rattle.std.proofs.Common.{sym, ap, ◌∙◌, arith}
 use Rattle.answer.specs.Rules.{refusal}
 use Rattle.answer.specs.declared.LineNo.{LineNo}
@@ -9,7 +9,6 @@ use Rattle.files.specs.File.{lines_of, check_file}
 use Rattle.checker.specs.Calls.{Through}
 use Rattle.files.proofs.laws.Verdict.{Stopped, at_line, at_end, refused_file, line_named}
 use Rattle.checker.specs.declared.Checker.{Checker}
-use Rattle.files.specs.declared.whole.Outcome.TheVariants.{Refused}
 use Rattle.promises.specs.Refusals.{behind_lines, RefusedWith, too_early}
 use Rattle.promises.specs.Refusals as refusals
 
@@ -26,5 +25,5 @@ module _ {file : List ℕ} {r : Refusal} where
   back (refusals.at_line earlier later l e on b n) = at_line earlier later l e on (record { broken = b; numbered = n ∙ sym (named on) })
   back (too_early on lacks e) = at_end on lacks (e ∙ ap (λ (n : LineNo). refusal 2 n 0) (sym (named on)))
 
-pub refused_exactly : (file : List ℕ) (r : Refusal) → check_file file ≡ Refused r ↔ RefusedWith file r
+pub refused_exactly : (file : List ℕ) (r : Refusal) → check_file file ≡ Err r ↔ RefusedWith file r
 refused_exactly file r = (λ e. said ((refused_file file r).0 e), λ w. (refused_file file r).1 (back w))

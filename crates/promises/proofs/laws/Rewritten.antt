@@ -1,6 +1,6 @@
 -- The writer can write every file that the reader accepts: its records, given back call by call, are all accepted, and give the same bytes. So the
 -- files that the writer's calls close are exactly those that the reader accepts. Assumes nothing.
-use Rattle.std.specs.Prelude.{◌≡◌, ◌↔◌, true, ℕ, suc, ◌+◌, ◌≤◌, ◌<◌, drop}
+use Rattle.std.specs.Prelude.{◌≡◌, ◌↔◌, true, ℕ, suc, ◌+◌, ◌≤◌, ◌<◌, drop, Ok}
 use Rattle.std.proofs.Math.Path.{refl, sym, ap, ap₂, subst⁻¹}
 use Rattle.std.proofs.Common.{◌∙◌, subst, arith, take-append-drop}
 use mathlib.Core.List.{List, [], ◌∷◌, ◌++◌, flatten, append_assoc, append-nil}
@@ -10,8 +10,7 @@ use Rattle.std.proofs.Math.ListN.{length, length-append}
 use Rattle.answer.specs.Limits.{file_cents, most_records}
 use Rattle.answer.specs.Rules.{AllKept}
 use Rattle.answer.proofs.laws.Order.{never}
-use Rattle.answer.specs.declared.Answer.{Answer}
-use Rattle.answer.specs.declared.Answer.TheVariants as answer
+use Rattle.answer.specs.Rules.{Answer}
 use Rattle.digits.proofs.laws.Numerals.{given_lt}
 use Rattle.layout.specs.Pairs.{batch_of}
 use Rattle.layout.specs.Field.{part}
@@ -43,8 +42,7 @@ use Rattle.files.proofs.laws.Verdict.{Passed, next_line_no, accepted_file}
 use Rattle.layout.specs.declared.shapes.Phase.{Phase}
 use Rattle.layout.specs.declared.shapes.Phase.TheVariants.{Start, Headed, Opened, Within, Paid, BehindZ, Closed, Ended}
 use Rattle.checker.specs.declared.totals.Totals.{Totals}
-use Rattle.files.specs.declared.whole.Outcome.{Outcome}
-use Rattle.files.specs.declared.whole.Outcome.TheVariants.{Accepted}
+use Rattle.files.specs.File.{Outcome}
 use Rattle.checker.specs.declared.Checker.{Checker}
 use Rattle.writer.specs.Given.{Call, open_file, open_batch, pay, close_batch, close_file, first_in, records_in, records_of, amount_of, amount_in}
 use Rattle.filling.specs.Filling.{bytes_of}
@@ -145,7 +143,7 @@ Writes s ls = (at : ℕ) (out : List ℕ) → Ready (writer s at) ls out → Rew
 -- a call that gives back the next lines
 module _ (w : Writer) (c : Call) (out : List ℕ) (ls : List (List ℕ)) {done : List (List ℕ)} {t : Checker} (y : Gives (expected_in c w.checker) w.checker (records_of c) done t)
     (h : Ready w (done ++ ls) out) (turn : AllKept (turn_limits c w.checker)) (sums : AllKept (sum_rules c w.checker)) where
-  call_accepted : answer_of w c out ≡ answer.Accepted
+  call_accepted : answer_of w c out ≡ Ok tt
   call_accepted =
       kept_call w c out (record {
         is_held = held_kept (reached_kept h.on_way.reached) (sum_below (done ++ ls) h.on_way);
@@ -382,7 +380,7 @@ module _ {ls : List (List ℕ)} {t : Totals} (p : Passed start ls t) where
       let most = given_lt (part file_records (record_in f.trailer)) (length ls) f.records_counted in
       omega (arith, rw six at most)
 
-module _ (file out : List ℕ) (t : Totals) (e : check_file file ≡ Accepted t) (room : length file ≤ length out) where
+module _ (file out : List ℕ) (t : Totals) (e : check_file file ≡ Ok t) (room : length file ≤ length out) where
   all_rewritten : Rewrites new_writer (lines_of file) out
   all_rewritten =
       let p = (accepted_file file t).0 e in
@@ -410,21 +408,21 @@ module _ (file out : List ℕ) (t : Totals) (e : check_file file ≡ Accepted t)
 
 -- ---- the files that calls close, and the reader's
 
-one_total : {o : Outcome} {t u : Totals} → o ≡ Accepted t → o ≡ Accepted u → t ≡ u
+one_total : {o : Outcome} {t u : Totals} → o ≡ Ok t → o ≡ Ok u → t ≡ u
 one_total p q = cc
 
 module _ (file : List ℕ) (t : Totals) where
-  to_writer : check_file file ≡ Accepted t → WrittenBy file t
+  to_writer : check_file file ≡ Ok t → WrittenBy file t
   to_writer e =
       let b = written_back file file t e (omega arith) in
       let ks = lent_on new_writer b.calls file in
-      let again = subst (λ (bs : List ℕ). check_file bs ≡ Accepted (put_in new_writer ks)) b.same_file (file_accepted ks b.whole b.closed) in
+      let again = subst (λ (bs : List ℕ). check_file bs ≡ Ok (put_in new_writer ks)) b.same_file (file_accepted ks b.whole b.closed) in
       record { calls = ks; whole = b.whole; closed = b.closed; is = b.same_file; counted = one_total again e }
 
-  to_reader : WrittenBy file t → check_file file ≡ Accepted t
+  to_reader : WrittenBy file t → check_file file ≡ Ok t
   to_reader w =
-      subst (λ (bs : List ℕ). check_file bs ≡ Accepted t) w.is (file_accepted w.calls w.whole w.closed ∙ ap Accepted w.counted)
+      subst (λ (bs : List ℕ). check_file bs ≡ Ok t) w.is (file_accepted w.calls w.whole w.closed ∙ ap Ok w.counted)
 
   -- the theorem: the reader accepts exactly the files that calls write and close, with the totals that they put in
-  pub written_exactly : check_file file ≡ Accepted t ↔ WrittenBy file t
+  pub written_exactly : check_file file ≡ Ok t ↔ WrittenBy file t
   written_exactly = (to_writer, to_reader)

@@ -1,10 +1,9 @@
 -- Two right lines of segment J that differ at one place: it isn't a place of the amounts, nor a guarded one of the barcode. Assumes nothing.
-use Rattle.std.specs.Prelude.{◌≡◌, ◌≢◌, List, ℕ, ◌+◌, ◌-◌, ◌≤◌, set}
+use Rattle.std.specs.Prelude.{◌≡◌, ◌≢◌, List, ℕ, ◌+◌, ◌-◌, ◌≤◌, set, Ok}
 use Rattle.std.proofs.Common.{ap, arith, eqb-true, lit≤}
 use Rattle.std.proofs.Math.Decide.{dec_le}
 use Rattle.std.proofs.Math.Seq.{take-set-lt}
 use Rattle.answer.specs.Rules.{AllKept, first_broken}
-use Rattle.answer.specs.declared.Answer.TheVariants.{Accepted}
 use Rattle.digits.specs.Digits.{place}
 use Rattle.digits.specs.Numbers.{value}
 use Rattle.digits.proofs.laws.Strings.{leading_all, part_set, part_get_or}
@@ -63,7 +62,7 @@ module _ {p : ℕ} {dir : Direction} {l l' : List ℕ}
 
 -- ---- the barcode
 
-barcode_accepted : {dir : Direction} (l : List ℕ) → RightLine SegmentJ dir l → first_broken (barcode_rules (part barcode_field (record_in l))) ≡ Accepted
+barcode_accepted : {dir : Direction} (l : List ℕ) → RightLine SegmentJ dir l → first_broken (barcode_rules (part barcode_field (record_in l))) ≡ Ok tt
 unfolding fields_of boleto_rules AllKept
 barcode_accepted l a =
     let bar = part barcode_field (record_in l) in

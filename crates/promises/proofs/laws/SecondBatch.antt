@@ -12,7 +12,7 @@ use Rattle.checker.specs.Totals.{add}
 use Rattle.checker.specs.Line.{line_bytes}
 use Rattle.files.specs.File.{lines_of}
 use Rattle.checker.specs.declared.totals.Totals.{Totals}
-use Rattle.files.specs.declared.whole.Outcome.{Outcome}
+use Rattle.files.specs.File.{Outcome}
 use Rattle.promises.specs.Grammar.{RightBatch, Batches, no_batches, batch, Meets}
 use Rattle.promises.specs.Guarded.{GuardedIn, changed}
 use Rattle.promises.specs.WrongOnes.{FirstBatch, FirstBatchOnly}

@@ -1,6 +1,6 @@
 -- Every rule that a call is refused by names a number and a place of the table: the rules of a record, of a line, of digit strings and of the
 -- writer's calls. Where all is known but the bytes, antt computes it. Assumes nothing.
-use Rattle.std.specs.Prelude.{◌≡◌, refl, Bool, true, false, ◌&&◌, List, [], ◌∷◌, ◌++◌, ℕ, suc, ◌+◌, ◌≤◌, T, eqb, length, drop}
+use Rattle.std.specs.Prelude.{◌≡◌, refl, Bool, true, false, ◌&&◌, List, [], ◌∷◌, ◌++◌, ℕ, suc, ◌+◌, ◌≤◌, T, eqb, length, drop, None, Option, Some}
 use Rattle.std.proofs.Common.{arith, eqb-true, le-leb, eqb→eq, lit≤, length-take}
 use Rattle.std.proofs.lemmas.Bool.{eqb-false}
 use Rattle.answer.specs.Rules.{Rule, rule, rules_on_line}
@@ -27,8 +27,6 @@ use Rattle.layout.proofs.laws.Records.{each}
 use Rattle.layout.specs.declared.pairs.Batch.{Batch}
 use Rattle.checker.specs.Line.{within, boleto_rules, collection_rules, house_rules, rules_of_type, rules_as, record_in, line_is, reading_rules, type_rules, line_rules, rules_of_line}
 use Rattle.checker.specs.Machine.{state, line_of}
-use Rattle.checker.specs.declared.order.Reading.{Reading}
-use Rattle.checker.specs.declared.order.Reading.TheVariants.{Line, Nothing}
 use Rattle.layout.specs.declared.shapes.Phase.{Phase}
 use Rattle.checker.specs.declared.totals.Totals.{Totals}
 use Rattle.checker.specs.declared.Checker.{Checker}
@@ -115,9 +113,9 @@ read r p Remittance b n x y rec = each (λ r. all_alone (rules_as r (state p Rem
 read r p Return b n x y rec = each (λ r. all_alone (rules_as r (state p Return b n x y) rec)) tt r
 
 -- whatever it is read as
-reading : (d : Reading) (s : Checker) (rec : List ℕ) → T (all_alone (reading_rules d s rec))
-reading (Line r) s rec = read r s.phase s.dir s.batch s.bank s.closed s.current rec
-reading Nothing s rec = tt
+reading : (d : Option Record) (s : Checker) (rec : List ℕ) → T (all_alone (reading_rules d s rec))
+reading (Some r) s rec = read r s.phase s.dir s.batch s.bank s.closed s.current rec
+reading None s rec = tt
 
 -- the rules of a line
 pub line-rules : (s : Checker) (line : List ℕ) → Only Alone (rules_of_line s line)

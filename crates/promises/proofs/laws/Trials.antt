@@ -1,12 +1,10 @@
 -- What the tables of computed files and of computed calls say of each of their rows. Assumes nothing.
-use Rattle.std.specs.Prelude.{Bool, true, false, ◌&&◌, List, [], ◌∷◌, ℕ, ◌-◌, ◌*◌, replicate}
+use Rattle.std.specs.Prelude.{Bool, true, false, ◌&&◌, List, [], ◌∷◌, ℕ, ◌-◌, ◌*◌, replicate, Err, Ok}
 use Prim.Native.String.{String}
-use Rattle.answer.specs.declared.Answer.{Answer}
-use Rattle.answer.specs.declared.Answer.TheVariants as answer
+use Rattle.answer.specs.Rules.{Answer}
 use Rattle.checker.specs.Line.{line_bytes}
 use Rattle.files.specs.File.{check_file}
-use Rattle.files.specs.declared.whole.Outcome.{Outcome}
-use Rattle.files.specs.declared.whole.Outcome.TheVariants.{Accepted, Refused}
+use Rattle.files.specs.File.{Outcome}
 use Rattle.writer.specs.Given.{Call}
 use Rattle.writer.specs.Outcome.{new_writer}
 use Rattle.writer.specs.Calls.{lent_on}
@@ -34,8 +32,8 @@ pub data Changed : Type 0 where
   wrong : List ℕ → List Put → ℕ → ℕ → ℕ → Changed
 
 abbrev pub is_refused : ℕ → ℕ → ℕ → Outcome → Bool
-is_refused n line place (Accepted t) = false
-is_refused n line place (Refused r) = is_at n line place r
+is_refused n line place (Ok t) = false
+is_refused n line place (Err r) = is_at n line place r
 
 abbrev pub file_holds : Changed → Bool
 file_holds (right file puts) = is_accepted (check_file (with_all puts file))
@@ -54,14 +52,14 @@ pub data Calls : Type 0 where
 
 abbrev pub all_taken : List Answer → Bool
 all_taken [] = true
-all_taken (answer.Accepted ∷ later) = all_taken later
-all_taken (answer.Refused r ∷ later) = false
+all_taken ((Ok tt) ∷ later) = all_taken later
+all_taken (Err r ∷ later) = false
 
 abbrev pub last_refused : ℕ → ℕ → ℕ → List Answer → Bool
 last_refused n line place [] = false
-last_refused n line place (answer.Accepted ∷ later) = last_refused n line place later
-last_refused n line place (answer.Refused r ∷ []) = is_at n line place r
-last_refused n line place (answer.Refused r ∷ (next ∷ later)) = false
+last_refused n line place ((Ok tt) ∷ later) = last_refused n line place later
+last_refused n line place (Err r ∷ []) = is_at n line place r
+last_refused n line place (Err r ∷ (next ∷ later)) = false
 
 -- in memory for six lines
 abbrev pub answers : List Call → List Answer

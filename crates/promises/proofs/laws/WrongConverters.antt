@@ -1,11 +1,10 @@
 -- These converters meet demand 2, in both families of digit strings; one that always refuses does not, whatever it is made of. Assumes nothing.
-use Rattle.std.specs.Prelude.{◌≡◌, refl, List, ℕ, ◌≤◌, length}
+use Rattle.std.specs.Prelude.{◌≡◌, refl, List, ℕ, ◌≤◌, length, Ok}
 use Rattle.std.proofs.Common.{sym, ◌∙◌, lit≤}
 use Rattle.answer.specs.Rules.{AllKept, first_broken}
 use Rattle.answer.specs.Output.{Writes}
 use Rattle.answer.proofs.laws.Order.{kept_accepted, accepted_kept, never_refused}
-use Rattle.answer.specs.declared.Answer.{Answer}
-use Rattle.answer.specs.declared.Answer.TheVariants.{Accepted}
+use Rattle.answer.specs.Rules.{Answer}
 use Rattle.digits.specs.Digits.{leading, weighed}
 use Rattle.digits.specs.Checks.{counts, lift, check_digit}
 use Rattle.boleto.specs.Strings.{digit_line_of}
@@ -75,11 +74,11 @@ barcode = part barcode_field (record_in (line_at 11 return_file))
 abbrev code : List ℕ
 code = part code_field (record_in (line_at 2 collection_file))
 
-barcode_kept : first_broken (barcode_rules barcode) ≡ Accepted
+barcode_kept : first_broken (barcode_rules barcode) ≡ Ok tt
 unfolding first_broken barcode_rules head_rules leading weighed counts lift check_digit
 barcode_kept = refl
 
-code_kept : first_broken (code_rules code) ≡ Accepted
+code_kept : first_broken (code_rules code) ≡ Ok tt
 unfolding first_broken code_rules code_head_rules modulus_of leading weighed counts lift check_digit
 code_kept = refl
 

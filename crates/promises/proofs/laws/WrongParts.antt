@@ -1,5 +1,5 @@
 -- The checker in parts meets the demand, and wrong ones fall to it, whatever they are made of. Assumes nothing.
-use Rattle.std.specs.Prelude.{◌≡◌, refl, Bool, true, false, cond, ℕ, replicate}
+use Rattle.std.specs.Prelude.{◌≡◌, refl, Bool, true, false, cond, ℕ, replicate, Err, Ok}
 use Rattle.std.proofs.Common.{sym, ap, ◌∙◌}
 use mathlib.Core.List.{List, [], ◌∷◌, ◌++◌, flatten}
 use Rattle.answer.specs.Rules.{refusal, first_broken}
@@ -10,8 +10,7 @@ use Rattle.checker.specs.Machine.{start, sound, step_of}
 use Rattle.files.specs.File.{cut, lines_of, steps, check_file}
 use Rattle.files.specs.Parts.{arrived, answer_in, part_call, status_behind, end_call, arrive}
 use Rattle.files.specs.Calls.{PartsCall, part, end, fed, bytes_of, end_declared}
-use Rattle.files.specs.declared.whole.Outcome.{Outcome}
-use Rattle.files.specs.declared.whole.Outcome.TheVariants as out
+use Rattle.files.specs.File.{Outcome}
 use Rattle.files.specs.declared.incoming.Status.TheVariants as status
 use Rattle.files.specs.declared.incoming.Incoming.{Incoming}
 use Rattle.files.specs.declared.incoming.Taken.{Taken}
@@ -43,8 +42,8 @@ behind : (cs : List PartsCall) → state_fed ours (arrived []) cs ≡ cond (end_
 behind cs = same_state (arrived []) cs ∙ fed_is cs
 
 again : (s : Incoming) (o : Outcome) → s.status ≡ status_behind o → (end_call s).outcome ≡ said_again o
-again s (out.Accepted t) e = (ended_again s e []).1
-again s (out.Refused r) e = (refused_again s r e []).1
+again s (Ok t) e = (ended_again s e []).1
+again s (Err r) e = (refused_again s r e []).1
 
 pub ours_right : PartsDemand ours
 ours_right = record {

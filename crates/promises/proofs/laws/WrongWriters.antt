@@ -1,11 +1,10 @@
 -- This writer meets demand 2; the wrong writers that the paper names do not, whatever they are made of. Assumes nothing.
-use Rattle.std.specs.Prelude.{◌≡◌, ℕ, ◌*◌, length, get_or, take, drop}
+use Rattle.std.specs.Prelude.{◌≡◌, ℕ, ◌*◌, length, get_or, take, drop, Ok}
 use Rattle.std.proofs.Math.Path.{refl}
 use Rattle.std.proofs.Common.{sym, ap, ◌∙◌, subst, arith, lit<, get_or-take, get_or-drop}
 use mathlib.Core.List.{List, [], ◌∷◌, ◌++◌, flatten}
 use Rattle.answer.specs.Rules.{first_broken}
-use Rattle.answer.specs.declared.Answer.{Answer}
-use Rattle.answer.specs.declared.Answer.TheVariants.{Accepted}
+use Rattle.answer.specs.Rules.{Answer}
 use Rattle.digits.specs.Digits.{digit_byte, leading, every_byte, weighed}
 use Rattle.digits.specs.Checks.{counts, lift, check_digit}
 use Rattle.ids.specs.Ids.{characters_fit, id_fits}
@@ -113,7 +112,7 @@ fresh lines = run 0 (lines * line_bytes)
 
 read_whole : (r : Record) (rec : List ℕ) → length rec ≡ record_bytes → Whole (of_record r (fields_in r rec))
 unfolding fields_in
-read_whole r rec long = let w = whole_read r rec long in record { numbers = w.numbers; given = w.given; text = w.text }
+read_whole r rec long = let w = whole_read r rec long in record { numbers = w.numbers; text = w.text }
 
 opened_whole : (out : List ℕ) → WholeCalls (lent_first opened out)
 unfolding lent_on
@@ -139,7 +138,7 @@ paid_twice_whole out =
 -- the file is opened, and its first byte is of the header's bank; a file with one payment has four lines, one with two has six, and the fifth
 -- begins with the bank
 record Computed : Type 0 where
-  answers : right_answers new_writer (lent_first opened (fresh 1)) ≡ Accepted ∷ []
+  answers : right_answers new_writer (lent_first opened (fresh 1)) ≡ (Ok tt) ∷ []
   opened_long : length (file_of (lent_first opened (fresh 1))) ≡ line_bytes
   opened_first : get_or (file_of (lent_first opened (fresh 1))) 0 0 ≡ digit_byte 0
   paid_long : length (file_of (lent_first paid (fresh 6))) ≡ 4 * line_bytes
@@ -156,7 +155,7 @@ computed = record { answers = refl; opened_long = refl; opened_first = refl; pai
 pub always_refuses : (w : AnyWriter) → AlwaysRefuses w → WriterDemand2 w → ⊥
 always_refuses w all d = go (subst AllRefused ((d opened (fresh 1) (opened_whole (fresh 1))).answered ∙ computed.answers) (all opened (fresh 1)))
   where
-    go : AllRefused (Accepted ∷ []) → ⊥
+    go : AllRefused ((Ok tt) ∷ []) → ⊥
     go h = elim h [ ]
 
 -- one that does nothing: the file header is not there

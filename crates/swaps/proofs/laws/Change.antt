@@ -1,6 +1,6 @@
 -- Demand 3: an accepted file with another byte at a guarded place, or with two unequal neighbours swapped that are guarded, is refused. Each is a
 -- file that differs from it only inside a field. Assumes nothing.
-use Rattle.std.specs.Prelude.{◌≡◌, ◌≢◌, List, ℕ, suc, ◌+◌, ◌*◌, ◌-◌, ◌≤◌, length, set}
+use Rattle.std.specs.Prelude.{◌≡◌, ◌≢◌, List, ℕ, suc, ◌+◌, ◌*◌, ◌-◌, ◌≤◌, length, set, Err, Ok}
 use Rattle.std.proofs.Common.{sym, ◌∙◌, subst, arith, lit≤}
 use Rattle.answer.specs.declared.Refusal.{Refusal}
 use Rattle.digits.specs.Digits.{place, swapped}
@@ -16,7 +16,6 @@ use Rattle.checker.specs.Machine.{start, direction_of}
 use Rattle.checker.specs.Calls.{left}
 use Rattle.files.specs.File.{check_file}
 use Rattle.checker.specs.declared.totals.Totals.{Totals}
-use Rattle.files.specs.declared.whole.Outcome.TheVariants.{Accepted, Refused}
 use Rattle.promises.specs.Grammar.{RightLine}
 use Rattle.promises.specs.Guarded.{In, place_of, line_at, state_at, ReadAt, changed}
 use Rattle.swaps.specs.Guarded.{Seen, guarded, no_barcode, Guarded, in_field, in_barcode, GuardedPair, both_in_field, both_in_barcode, GuardedIn, GuardedPairIn, swapped_at, DifferIn, in_line}
@@ -64,17 +63,17 @@ of_barcode check = (lit≤ tt, lit≤ tt)
 
 -- ---- in an accepted file
 
-module _ (file : List ℕ) (t : Totals) (n p : ℕ) (e : check_file file ≡ Accepted t) where
+module _ (file : List ℕ) (t : Totals) (n p : ℕ) (e : check_file file ≡ Ok t) where
   -- place p of the file is one of this field of line n, in which the other file is seen
   pub refused_by : {f : Field} {r : Record} (other : List ℕ) → ReadAt n file r → n * line_bytes + p ≤ length file → In f p
-      → Seen (direction_of (record_in file)) (state_at n file).batch r (line_at n other) f → DifferIn (in_line n f) file other → (x : Refusal) × (check_file other ≡ Refused x)
+      → Seen (direction_of (record_in file)) (state_at n file).batch r (line_at n other) f → DifferIn (in_line n f) file other → (x : Refusal) × (check_file other ≡ Err x)
   refused_by {f} other read inside i seen d = bytes_refused file other t n f e (record { seen = record { which = _; read = read; inside = omega arith; so = seen }; differ = d })
 
   -- the line is a right J
   pub right-line : {r : Record} → ReadAt n file r → 1 ≤ p → n * line_bytes + p ≤ length file → r ≡ SegmentJ → RightLine SegmentJ (left start (earlier n file)).dir (line_at n file)
   right-line read low inside j = (goes_there file t n e (omega arith) (subst (λ (x : Record). ReadAt n file x) j read)).fitting.right
 
-  changed_refused : (b : ℕ) → GuardedIn file n p → b ≢ place p (line_at n file) → (r : Refusal) × (check_file (changed file n p b) ≡ Refused r)
+  changed_refused : (b : ℕ) → GuardedIn file n p → b ≢ place p (line_at n file) → (r : Refusal) × (check_file (changed file n p b) ≡ Err r)
   changed_refused b g ne = go g.so
     where
       other : List ℕ
@@ -85,7 +84,7 @@ module _ (file : List ℕ) (t : Totals) (n p : ℕ) (e : check_file file ≡ Acc
           let k : n * line_bytes + (p - 1) ≡ n * line_bytes + p - 1 = omega arith in
           rw k (byte_differs (in_line n f) (n * line_bytes + p) b file (omega arith) (omega arith) g.inside (rw (place_there n p file (omega arith) (omega arith)) at ne))
 
-      go : Guarded (direction_of (record_in file)) (state_at n file).batch g.which (line_at n file) p → (r : Refusal) × (check_file other ≡ Refused r)
+      go : Guarded (direction_of (record_in file)) (state_at n file).batch g.which (line_at n file) p → (r : Refusal) × (check_file other ≡ Err r)
       go (in_field {f} h i) = let s = field_placed h in refused_by other g.read g.inside i (guarded h) (differ f i s.first s.last)
       go (in_barcode {q} j h at) =
           let c = of_barcode h in
@@ -104,13 +103,13 @@ module _ (file : List ℕ) (t : Totals) (n p : ℕ) (e : check_file file ≡ Acc
       let there = place_there n (suc p) file (omega arith) (omega arith) in
       pair_differs (in_line n f) (m + p) file (omega arith) (omega arith) (omega arith) (omega arith) (rw (here, there, next) at ne)
 
-  swapped_refused : GuardedPairIn file n p → place p (line_at n file) ≢ place (suc p) (line_at n file) → (r : Refusal) × (check_file (swapped_at file n p) ≡ Refused r)
+  swapped_refused : GuardedPairIn file n p → place p (line_at n file) ≢ place (suc p) (line_at n file) → (r : Refusal) × (check_file (swapped_at file n p) ≡ Err r)
   swapped_refused g ne = go g.so
     where
       other : List ℕ
       other = swapped_at file n p
 
-      go : GuardedPair (direction_of (record_in file)) (state_at n file).batch g.which (line_at n file) p → (r : Refusal) × (check_file other ≡ Refused r)
+      go : GuardedPair (direction_of (record_in file)) (state_at n file).batch g.which (line_at n file) p → (r : Refusal) × (check_file other ≡ Err r)
       go (both_in_field {f} h i k) =
           let s = field_placed h in
           refused_by other g.read (omega (arith, g.inside)) i (guarded h) (swap_differs f i k s.first s.last g.inside ne)

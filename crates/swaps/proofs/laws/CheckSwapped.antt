@@ -1,6 +1,6 @@
 -- The general check of a J swapped with the first digit of its due factor, when it isn't 1: where the check does not see it, the due date does, and the file is
 -- refused. Assumes nothing.
-use Rattle.std.specs.Prelude.{◌≡◌, refl, ◌≢◌, true, ◌||◌, List, [], ◌∷◌, ℕ, suc, ◌+◌, ◌*◌, ◌≤◌, eqb, length, get_or, drop, set}
+use Rattle.std.specs.Prelude.{◌≡◌, refl, ◌≢◌, true, ◌||◌, List, [], ◌∷◌, ℕ, suc, ◌+◌, ◌*◌, ◌≤◌, eqb, length, get_or, drop, set, Err, Ok}
 use Rattle.std.proofs.Common.{sym, ap, ◌∙◌, arith, eqb-true, eq-eqb, ne_eqb, lit≤, length-set, length-take, length-drop, get_or-take, get_or-drop, get_or-set_same}
 use Rattle.answer.specs.Rules.{AllKept}
 use Rattle.answer.specs.declared.Refusal.{Refusal}
@@ -22,7 +22,6 @@ use Rattle.checker.specs.Machine.{start, direction_of}
 use Rattle.checker.specs.Calls.{left}
 use Rattle.files.specs.File.{check_file}
 use Rattle.checker.specs.declared.totals.Totals.{Totals}
-use Rattle.files.specs.declared.whole.Outcome.TheVariants.{Accepted, Refused}
 use Rattle.promises.specs.Grammar.{RightLine}
 use Rattle.promises.specs.Guarded.{line_at, ReadAt}
 use Rattle.swaps.specs.Guarded.{no_barcode, swapped_at, DifferIn, in_line}
@@ -66,7 +65,7 @@ factor_due l a ne =
 
 -- ---- the theorem
 
-module _ (file : List ℕ) (t : Totals) (n : ℕ) (e : check_file file ≡ Accepted t) (read : ReadAt n file SegmentJ) (inside : n * line_bytes + factor_place ≤ length file) where
+module _ (file : List ℕ) (t : Totals) (n : ℕ) (e : check_file file ≡ Ok t) (read : ReadAt n file SegmentJ) (inside : n * line_bytes + factor_place ≤ length file) where
   abbrev bar : List ℕ
   bar = barcode_at n file
 
@@ -110,7 +109,7 @@ module _ (file : List ℕ) (t : Totals) (n : ℕ) (e : check_file file ≡ Accep
         let one_value = v ∙ ap (λ (ds : List ℕ). factor_of (date_of (value ds))) due ∙ sym v' in
         other-digit (sym now ∙ sym (same_factor (of_barcode bar b) (of_barcode (barcode_at n other) b') one_value) ∙ was)
 
-    pub check_swap_refused : place general_place (line_at n file) ≢ digit_byte 1 → (r : Refusal) × (check_file (swapped_at file n general_place) ≡ Refused r)
+    pub check_swap_refused : place general_place (line_at n file) ≢ digit_byte 1 → (r : Refusal) × (check_file (swapped_at file n general_place) ≡ Err r)
     check_swap_refused not_one = refused_by file t n general_place e other read (omega arith) (lit≤ tt, lit≤ tt) (no_barcode refl wrong) differ
       where
         wrong : RightLine SegmentJ (direction_of (record_in file)) (line_at n other) → ⊥

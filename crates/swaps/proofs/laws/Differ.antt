@@ -1,12 +1,11 @@
 -- Two lists of bytes that differ only inside a field: other parts are the same in both, and the field's own part is not. Assumes nothing.
-use Rattle.std.specs.Prelude.{◌≡◌, ◌≢◌, true, List, ℕ, suc, ◌+◌, ◌-◌, ◌≤◌, ◌<◌, length, get_or, take, drop, set}
+use Rattle.std.specs.Prelude.{◌≡◌, ◌≢◌, true, List, ℕ, suc, ◌+◌, ◌-◌, ◌≤◌, ◌<◌, length, get_or, take, drop, set, Some}
 use Rattle.std.proofs.Common.{sym, ap, ◌∙◌, arith, eqb-true, le-leb, length-set, length-take, length-drop, take_all, get_or-take, get_or-drop, get_or-set_same, get_or-set_other, ext_get_or}
 use Rattle.std.proofs.Math.Decide.{dec_le}
 use Rattle.digits.specs.Digits.{all_digits, place, swapped}
 use Rattle.digits.specs.Numbers.{most_digits, number_of, value}
 use Rattle.digits.proofs.laws.Strings.{part_get_or, leading_all}
 use Rattle.digits.proofs.laws.Numerals.{number_inj, given}
-use Rattle.digits.specs.declared.spelling.Number.TheVariants.{Is}
 use Rattle.layout.specs.Field.{Field, part}
 use Rattle.layout.specs.Kinds.{is_fixed}
 use Rattle.layout.proofs.laws.Bytes.{same_true}
@@ -44,7 +43,7 @@ pair_differs f p xs i j h k ne =
 -- ---- bytes of one length that are the same
 
 -- they give one number
-pub reads_same : (bs cs : List ℕ) {k : ℕ} → length bs ≡ length cs → number_of bs ≡ Is k → number_of cs ≡ Is k → bs ≡ cs
+pub reads_same : (bs cs : List ℕ) {k : ℕ} → length bs ≡ length cs → number_of bs ≡ Some k → number_of cs ≡ Some k → bs ≡ cs
 reads_same bs cs {k} e p q =
     let g = given bs k p in
     let h = given cs k q in

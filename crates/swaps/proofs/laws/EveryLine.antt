@@ -1,6 +1,6 @@
 -- Every line of an accepted file is read as the record that the grammar gives to it; so its places 1 to 8 and its line ends are guarded.
 -- Assumes nothing.
-use Rattle.std.specs.Prelude.{◌≡◌, refl, ◌≢◌, ◌⊎◌, ℕ, ◌*◌, ◌≤◌, ◌<◌, length, get_or}
+use Rattle.std.specs.Prelude.{◌≡◌, refl, ◌≢◌, ◌⊎◌, ℕ, ◌*◌, ◌≤◌, ◌<◌, length, get_or, Err, Ok}
 use Rattle.std.proofs.Common.{sym, ap, ◌∙◌, subst, inl, inr, ⊎_elim, arith, length-append}
 use mathlib.Core.List.{List, flatten}
 use Rattle.answer.specs.declared.Refusal.{Refusal}
@@ -17,7 +17,6 @@ use Rattle.files.proofs.laws.Runs.{lines_joined}
 use Rattle.files.proofs.laws.Verdict.{accepted_file}
 use Rattle.checker.specs.declared.totals.Totals.{Totals}
 use Rattle.checker.specs.declared.Checker.{Checker}
-use Rattle.files.specs.declared.whole.Outcome.TheVariants.{Accepted, Refused}
 use Rattle.promises.specs.Grammar.{Meets, records_in_file}
 use Rattle.promises.specs.Guarded.{On, EachRead, line_at, changed}
 use Rattle.swaps.specs.Guarded.{Guarded, GuardedIn}
@@ -36,7 +35,7 @@ whole_lines here = refl
 whole_lines (further {s} {l = l} {ls = ls} k on) =
     length-append l (flatten ls) ∙ omega (arith, (kept_line s l k).1.long, whole_lines on)
 
-pub file_long : (file : List ℕ) (t : Totals) → check_file file ≡ Accepted t → length file ≡ length (lines_of file) * line_bytes
+pub file_long : (file : List ℕ) (t : Totals) → check_file file ≡ Ok t → length file ≡ length (lines_of file) * line_bytes
 file_long file t e = ap length (sym (lines_joined file)) ∙ whole_lines ((accepted_file file t).0 e).through
 
 -- ---- each is read
@@ -54,7 +53,7 @@ every_line_read {file} {t} m =
 
 -- ---- places 1 to 8 and the line ends of every line
 
-module _ (file : List ℕ) (t : Totals) (n p : ℕ) (e : check_file file ≡ Accepted t) (h : n < length (lines_of file)) (at : On 1 8 p ⊎ On 241 242 p) where
+module _ (file : List ℕ) (t : Totals) (n p : ℕ) (e : check_file file ≡ Ok t) (h : n < length (lines_of file)) (at : On 1 8 p ⊎ On 241 242 p) where
   -- are guarded
   pub every_line_guarded : GuardedIn file n p
   every_line_guarded = go at
@@ -78,5 +77,5 @@ module _ (file : List ℕ) (t : Totals) (n p : ℕ) (e : check_file file ≡ Acc
           }
 
   -- so another byte there is refused
-  pub every_line_change : (b : ℕ) → b ≢ place p (line_at n file) → (r : Refusal) × (check_file (changed file n p b) ≡ Refused r)
+  pub every_line_change : (b : ℕ) → b ≢ place p (line_at n file) → (r : Refusal) × (check_file (changed file n p b) ≡ Err r)
   every_line_change b ne = change_refused file t n p b e every_line_guarded ne

@@ -1,5 +1,5 @@
 -- An accepted file, and another that differs from it only inside a field of one line, where it is seen: the other is refused. Assumes nothing.
-use Rattle.std.specs.Prelude.{◌≡◌, refl, ◌≢◌, ◌⊎◌, List, ℕ, ◌*◌, ◌-◌, ◌≤◌, ◌<◌, length}
+use Rattle.std.specs.Prelude.{◌≡◌, refl, ◌≢◌, ◌⊎◌, List, ℕ, ◌*◌, ◌-◌, ◌≤◌, ◌<◌, length, Err, Ok, Some}
 use Rattle.std.proofs.Common.{sym, ap, ◌∙◌, subst, inl, inr, arith, lit≤, get_or-take}
 use Rattle.std.proofs.Math.Decide.{dec_le}
 use Rattle.std.proofs.Math.ListN.{get_or-eq_default}
@@ -18,11 +18,9 @@ use Rattle.files.specs.File.{lines_of, check_file}
 use Rattle.checker.specs.Calls.{at_start, left}
 use Rattle.checker.proofs.laws.Details.{asked, detail_of}
 use Rattle.files.proofs.laws.Verdict.{Passed, accepted_file}
-use Rattle.checker.specs.declared.order.Reading.TheVariants.{Line}
 use Rattle.checker.specs.declared.totals.Totals.{Totals}
 use Rattle.checker.specs.declared.Checker.{Checker}
-use Rattle.files.specs.declared.whole.Outcome.{Outcome}
-use Rattle.files.specs.declared.whole.Outcome.TheVariants.{Accepted, Refused}
+use Rattle.files.specs.File.{Outcome}
 use Rattle.promises.specs.Grammar.{RightLine}
 use Rattle.promises.specs.Guarded.{In, LetterGuarded, line_at, ReadAt}
 use Rattle.swaps.specs.Guarded.{AmountIn, credit, nominal, discount, fine, boleto, collection, CountIn, batch-records, batch-sum, file-batches, file-records, GuardedField, line-end, bank, batch-number, line_type, detail_number, letter, fixed, amount, count, Seen, guarded, no_barcode, DifferIn, OtherIn}
@@ -192,21 +190,21 @@ module _ {s : Checker} {ls : List (List ℕ)} {dir : Direction} {r r' : Record} 
 -- ---- two files
 
 -- an accepted file's lines lead to the end
-ends_at : (file : List ℕ) (t : Totals) (ls : List (List ℕ)) → check_file file ≡ Accepted t → lines_of file ≡ ls → Ends start ls
+ends_at : (file : List ℕ) (t : Totals) (ls : List (List ℕ)) → check_file file ≡ Ok t → lines_of file ≡ ls → Ends start ls
 ends_at file t ls e q =
     let h = subst (λ (x : List (List ℕ)). Passed start x t) q ((accepted_file file t).0 e) in
     record { reached = at_start; to = h.to; through = h.through; at_end = h.at_end }
 
 -- and a line that is read as this record goes on to it
-pub goes_there : (file : List ℕ) (t : Totals) (n : ℕ) {r : Record} → check_file file ≡ Accepted t → n * line_bytes < length file → ReadAt n file r
+pub goes_there : (file : List ℕ) (t : Totals) (n : ℕ) {r : Record} → check_file file ≡ Ok t → n * line_bytes < length file → ReadAt n file r
     → Goes r (left start (earlier n file)) (line_at n file) (rest n file)
 goes_there file t n {r} e h read =
     let l = line_at n file in
     let found = goes (behind _ (earlier n file) (ends_at file t _ e (split n file h))) in
-    let here : line_is (left start (earlier n file)) (record_in l) ≡ Line r = rw (take_earlier n file h) at read in
+    let here : line_is (left start (earlier n file)) (record_in l) ≡ Some r = rw (take_earlier n file h) at read in
     goes_as l (cc (found.1.read, here)) found.1
 
-not_both_accepted : (file other : List ℕ) (t t' : Totals) (n : ℕ) (f : Field) → check_file file ≡ Accepted t → check_file other ≡ Accepted t' → OtherIn file other n f → ⊥
+not_both_accepted : (file other : List ℕ) (t t' : Totals) (n : ℕ) (f : Field) → check_file file ≡ Ok t → check_file other ≡ Ok t' → OtherIn file other n f → ⊥
 not_both_accepted file other t t' n f e e' o =
     let c = o.seen in
     let at = placed c.so in
@@ -218,9 +216,9 @@ not_both_accepted file other t t' n f e e' o =
     not_both l (line_at n other) there found.1 (line_differs n f file other o.differ at.first at.last) (rw (take_earlier n file h) at c.so) dirs
 
 -- other bytes in a field of an accepted file, where they are seen, are refused
-pub bytes_refused : (file other : List ℕ) (t : Totals) (n : ℕ) (f : Field) → check_file file ≡ Accepted t → OtherIn file other n f → (r : Refusal) × (check_file other ≡ Refused r)
+pub bytes_refused : (file other : List ℕ) (t : Totals) (n : ℕ) (f : Field) → check_file file ≡ Ok t → OtherIn file other n f → (r : Refusal) × (check_file other ≡ Err r)
 bytes_refused file other t n f e o = go (check_file other) refl
   where
-    go : (x : Outcome) → check_file other ≡ x → (r : Refusal) × (check_file other ≡ Refused r)
-    go (Accepted t') q = absurd (not_both_accepted file other t t' n f e q o)
-    go (Refused r) q = (r, q)
+    go : (x : Outcome) → check_file other ≡ x → (r : Refusal) × (check_file other ≡ Err r)
+    go (Ok t') q = absurd (not_both_accepted file other t t' n f e q o)
+    go (Err r) q = (r, q)

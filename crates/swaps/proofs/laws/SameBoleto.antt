@@ -1,8 +1,7 @@
 -- Two right lines of segment J that differ only inside a field: it is none of the amounts. A right line has a right barcode. Assumes nothing.
-use Rattle.std.specs.Prelude.{◌≡◌, List, ℕ, ◌+◌, ◌≤◌}
+use Rattle.std.specs.Prelude.{◌≡◌, List, ℕ, ◌+◌, ◌≤◌, Ok}
 use Rattle.std.proofs.Common.{ap, arith, eqb-true, lit≤}
 use Rattle.answer.specs.Rules.{AllKept, first_broken}
-use Rattle.answer.specs.declared.Answer.TheVariants.{Accepted}
 use Rattle.digits.specs.Numbers.{value}
 use Rattle.digits.proofs.laws.Strings.{leading_all}
 use Rattle.boleto.specs.Rules.{barcode_rules}
@@ -49,7 +48,7 @@ module _ {dir : Direction} {l l' : List ℕ} (a : RightLine SegmentJ dir l) (a' 
 
 -- ---- the barcode
 
-pub barcode_accepted : {dir : Direction} (l : List ℕ) → RightLine SegmentJ dir l → first_broken (barcode_rules (part barcode_field (record_in l))) ≡ Accepted
+pub barcode_accepted : {dir : Direction} (l : List ℕ) → RightLine SegmentJ dir l → first_broken (barcode_rules (part barcode_field (record_in l))) ≡ Ok tt
 unfolding fields_of boleto_rules AllKept
 barcode_accepted l a =
     let bar = part barcode_field (record_in l) in

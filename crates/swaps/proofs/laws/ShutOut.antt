@@ -1,5 +1,5 @@
 -- The wrong checkers that the paper names fall to demands 2 and 3, whatever they are made of. Assumes nothing.
-use Rattle.std.specs.Prelude.{◌≡◌, refl, ◌≢◌, List, [], ℕ, suc, ◌≤◌}
+use Rattle.std.specs.Prelude.{◌≡◌, refl, ◌≢◌, List, [], ℕ, suc, ◌≤◌, Err, Ok}
 use Rattle.std.proofs.Common.{sym, ◌∙◌, arith, lit≤}
 use Rattle.answer.specs.declared.Refusal.{Refusal}
 use Rattle.digits.specs.Digits.{digit_byte, place}
@@ -11,8 +11,7 @@ use Rattle.checker.specs.Machine.{sound}
 use Rattle.files.specs.File.{cut, steps, end_of, finish, check_file}
 use Rattle.checker.specs.Totals.{withdrawn_payments}
 use Rattle.checker.specs.declared.totals.Totals.{Totals}
-use Rattle.files.specs.declared.whole.Outcome.{Outcome}
-use Rattle.files.specs.declared.whole.Outcome.TheVariants.{Accepted, Refused}
+use Rattle.files.specs.File.{Outcome}
 use Rattle.files.proofs.laws.Apart.{accepted_refused}
 use Rattle.promises.specs.Grammar.{Meets}
 use Rattle.promises.specs.Guarded.{line_at, changed}
@@ -27,28 +26,28 @@ use Rattle.swaps.proofs.laws.SwapFiles.{every_amount}
 use Rattle.swaps.proofs.laws.SecondBatch.{behind_first, guarded_there, unseen}
 
 -- it meets demand 2: then its acceptances are the checker's
-same_accepted : {check : List ℕ → Outcome} → Demand2 check → (file : List ℕ) (t : Totals) → check file ≡ Accepted t → check_file file ≡ Accepted t
+same_accepted : {check : List ℕ → Outcome} → Demand2 check → (file : List ℕ) (t : Totals) → check file ≡ Ok t → check_file file ≡ Ok t
 same_accepted h file t e = (accepted_exactly file t).1 ((h file t).0 e)
 
 -- one that refuses all files: some file meets the grammar
-pub refuses_all : (check : List ℕ → Outcome) → ((file : List ℕ) → (r : Refusal) × (check file ≡ Refused r)) → Demand2 check → ⊥
+pub refuses_all : (check : List ℕ → Outcome) → ((file : List ℕ) → (r : Refusal) × (check file ≡ Err r)) → Demand2 check → ⊥
 refuses_all check all h = accepted_refused (sym ((h credit_file _).1 ((accepted_exactly credit_file _).0 credit-file)) ∙ (all credit_file).1)
 
 -- one that reports totals that are not the file's: payments or cents made up
-pub invented : (check : List ℕ → Outcome) → Demand2 check → (file : List ℕ) (t u : Totals) → Meets file t → check file ≡ Accepted u → u ≢ t → ⊥
+pub invented : (check : List ℕ → Outcome) → Demand2 check → (file : List ℕ) (t u : Totals) → Meets file t → check file ≡ Ok u → u ≢ t → ⊥
 invented check h file t u m e ne = ne (let z = sym e ∙ (h file t).1 m in cc)
 
 -- one that reports no payment as withdrawn, whatever the file
-pub never_withdrawn : (check : List ℕ → Outcome) → ((file : List ℕ) (t : Totals) → check file ≡ Accepted t → withdrawn_payments t ≡ 0) → Demand2 check → ⊥
+pub never_withdrawn : (check : List ℕ → Outcome) → ((file : List ℕ) (t : Totals) → check file ≡ Ok t → withdrawn_payments t ≡ 0) → Demand2 check → ⊥
 never_withdrawn check none h = let z = none withdrawn_file _ ((h withdrawn_file _).1 ((accepted_exactly withdrawn_file _).0 withdrawn-file)) in absurd (omega arith)
 
 -- one that meets demand 2 refuses what the checker refuses; so it meets demand 3, of bytes and of swaps
-same_refused : {check : List ℕ → Outcome} → Demand2 check → (file : List ℕ) → (r : Refusal) × (check_file file ≡ Refused r) → (r : Refusal) × (check file ≡ Refused r)
+same_refused : {check : List ℕ → Outcome} → Demand2 check → (file : List ℕ) → (r : Refusal) × (check_file file ≡ Err r) → (r : Refusal) × (check file ≡ Err r)
 same_refused {check} h file x = go (check file) refl
   where
-    go : (o : Outcome) → check file ≡ o → (r : Refusal) × (check file ≡ Refused r)
-    go (Accepted t) q = absurd (accepted_refused (sym (same_accepted h file t q) ∙ x.1))
-    go (Refused r) q = (r, q)
+    go : (o : Outcome) → check file ≡ o → (r : Refusal) × (check file ≡ Err r)
+    go (Ok t) q = absurd (accepted_refused (sym (same_accepted h file t q) ∙ x.1))
+    go (Err r) q = (r, q)
 
 pub demand_3 : (check : List ℕ → Outcome) → Demand2 check → Demand3 check
 demand_3 check h file t n p b e g ne = same_refused h (changed file n p b) (change_refused file t n p b (same_accepted h file t e) g ne)
@@ -57,18 +56,18 @@ pub swap_demand_3 : (check : List ℕ → Outcome) → Demand2 check → SwapDem
 swap_demand_3 check h file t n p e g ne = same_refused h (swapped_at file n p) (swap_refused file t n p (same_accepted h file t e) g ne)
 
 -- one that gives a file the same answer with another byte at a guarded place: that of another batch than the first, for one that looks at the first only
-pub overlooks_3 : (check : List ℕ → Outcome) → Demand3 check → (file : List ℕ) (t : Totals) (n p b : ℕ) → check file ≡ Accepted t → GuardedIn file n p
+pub overlooks_3 : (check : List ℕ → Outcome) → Demand3 check → (file : List ℕ) (t : Totals) (n p b : ℕ) → check file ≡ Ok t → GuardedIn file n p
     → b ≢ place p (line_at n file) → check (changed file n p b) ≡ check file → ⊥
 overlooks_3 check h file t n p b e g ne same = accepted_refused (sym e ∙ (sym same ∙ (h file t n p b e g ne).1))
 
-pub overlooks_2 : (check : List ℕ → Outcome) → Demand2 check → (file : List ℕ) (t : Totals) (n p b : ℕ) → check file ≡ Accepted t → GuardedIn file n p
+pub overlooks_2 : (check : List ℕ → Outcome) → Demand2 check → (file : List ℕ) (t : Totals) (n p b : ℕ) → check file ≡ Ok t → GuardedIn file n p
     → b ≢ place p (line_at n file) → check (changed file n p b) ≡ check file → ⊥
 overlooks_2 check h = overlooks_3 check (demand_3 check h)
 
 -- one that gives every file the same answer with two neighbours swapped, as one that adds up the digits of an amount: by an accepted file with unequal
 -- neighbours in its amount
 pub orderless_3 : (check : List ℕ → Outcome) → ((file : List ℕ) (n p : ℕ) → check (swapped_at file n p) ≡ check file) → SwapDemand3 check
-    → (file : List ℕ) (t : Totals) (n p : ℕ) → check file ≡ Accepted t → GuardedPairIn file n p → place p (line_at n file) ≢ place (suc p) (line_at n file) → ⊥
+    → (file : List ℕ) (t : Totals) (n p : ℕ) → check file ≡ Ok t → GuardedPairIn file n p → place p (line_at n file) ≢ place (suc p) (line_at n file) → ⊥
 orderless_3 check same h file t n p e g ne = accepted_refused (sym e ∙ (sym (same file n p) ∙ (h file t n p e g ne).1))
 
 pub orderless_2 : (check : List ℕ → Outcome) → ((file : List ℕ) (n p : ℕ) → check (swapped_at file n p) ≡ check file) → Demand2 check → ⊥
@@ -79,7 +78,7 @@ orderless_2 check same h =
 
 -- one that looks at the first batch only, and accepts a file of two or more: a byte of the second is changed
 pub first_batch_only_3 : (check : List ℕ → Outcome) → FirstBatchOnly check → Demand3 check → (file : List ℕ) (t u : Totals) → Meets file t → 2 ≤ t.batches
-    → check file ≡ Accepted u → ⊥
+    → check file ≡ Ok u → ⊥
 first_batch_only_3 check only h file t u m two e =
     let n = behind_first file t m two in
     let b = suc (place 1 (line_at n file)) in
@@ -95,12 +94,12 @@ first_batch_only_2 check only h =
     (unseen return_file _ m (lit≤ tt) check only b)
 
 -- the empty file is refused, with 2
-empty_refused : {t : Totals} → check_file [] ≡ Accepted t → ⊥
+empty_refused : {t : Totals} → check_file [] ≡ Ok t → ⊥
 unfolding finish cut steps end_of sound
 empty_refused e = accepted_refused (sym e)
 
 -- one acceptance for every file: the empty one is refused, and every file has another
-pub one_acceptance_2 : (check : List ℕ → Outcome) (t : Totals) → ((file : List ℕ) → check file ≡ Accepted t) → Demand2 check → ⊥
+pub one_acceptance_2 : (check : List ℕ → Outcome) (t : Totals) → ((file : List ℕ) → check file ≡ Ok t) → Demand2 check → ⊥
 one_acceptance_2 check t all h = empty_refused (same_accepted h [] t (all []))
 
 -- a line of zeros is read as a file header, and its first place is guarded
@@ -111,7 +110,7 @@ zeros_guarded : GuardedIn zeros 0 1
 unfolding left
 zeros_guarded = record { which = FileHeader; read = refl; inside = lit≤ tt; so = in_field bank (lit≤ tt, lit≤ tt) }
 
-pub one_acceptance_3 : (check : List ℕ → Outcome) (t : Totals) → ((file : List ℕ) → check file ≡ Accepted t) → Demand3 check → ⊥
+pub one_acceptance_3 : (check : List ℕ → Outcome) (t : Totals) → ((file : List ℕ) → check file ≡ Ok t) → Demand3 check → ⊥
 one_acceptance_3 check t all h =
     let b = suc (place 1 (line_at 0 zeros)) in
     overlooks_3 check h zeros t 0 1 b (all zeros) zeros_guarded (λ e. omega arith) (all _ ∙ sym (all zeros))

@@ -1,6 +1,6 @@
 -- Files with two neighbours swapped, computed: what each swap is refused with, and which swap is not seen; and for each amount, and for the barcode, an
 -- accepted file that has unequal neighbours there. Assumes nothing.
-use Rattle.std.specs.Prelude.{◌≡◌, refl, ◌≢◌, Bool, true, not, ◌&&◌, List, [], ◌∷◌, ◌++◌, ℕ, suc, ◌+◌, ◌*◌, ◌-◌, ◌≤◌, T, eqb, length}
+use Rattle.std.specs.Prelude.{◌≡◌, refl, ◌≢◌, Bool, true, not, ◌&&◌, List, [], ◌∷◌, ◌++◌, ℕ, suc, ◌+◌, ◌*◌, ◌-◌, ◌≤◌, T, eqb, length, Ok}
 use Rattle.std.proofs.Common.{arith, lit≤}
 use Rattle.answer.specs.Rules.{first_broken}
 use Rattle.digits.specs.Digits.{bytes, digit_byte, place, leading, every_byte, weighed}
@@ -24,7 +24,6 @@ use Rattle.checker.specs.Machine.{sound, step_of}
 use Rattle.checker.specs.Calls.{left}
 use Rattle.files.specs.File.{cut, steps, end_of, finish, check_file}
 use Rattle.checker.specs.declared.totals.Totals.{Totals}
-use Rattle.files.specs.declared.whole.Outcome.TheVariants.{Accepted}
 use Rattle.promises.specs.Guarded.{In, place_of, line_at, ReadAt}
 use Rattle.swaps.specs.Guarded.{AmountIn, credit, nominal, discount, fine, boleto, collection, amount, both_in_field, both_in_barcode, GuardedPairIn, swapped_at}
 use Rattle.promises.proofs.laws.AcceptedFiles.{is_accepted, credit_file, credit-file}
@@ -45,7 +44,7 @@ neighbours_file =
     ++ line_from (bytes "08500015         000008000000000000194307000000000000000000000000                                                                                                                                                                               ")
     ++ line_from (bytes "08599999         000001000010000000                                                                                                                                                                                                             ")
 
-pub neighbours-file : check_file neighbours_file ≡ Accepted (totals 1 10 (live (tally 3 194307)) (withdrawn no_payments))
+pub neighbours-file : check_file neighbours_file ≡ Ok (totals 1 10 (live (tally 3 194307)) (withdrawn no_payments))
 unfolding first_broken leading every_byte weighed counts lift check_digit characters_fit id_fits number_of exists date_fits time_fits days_of_years day_number due_days folded factor_of same batch_of rules_of clean fields_of cut steps end_of finish within boleto_rules rules_of_type rules_as type_rules line_rules rules_of_line sound step_of add
 neighbours-file = refl
 
@@ -102,7 +101,7 @@ table_holds = tt
 pub record UnequalIn (r : Record) (f : Field) : Type 0 where
   pub file : List ℕ
   pub in_it : Totals
-  pub accepted : check_file file ≡ Accepted in_it
+  pub accepted : check_file file ≡ Ok in_it
   pub before : ℕ
   pub at : ℕ
   pub there : GuardedPairIn file before at
@@ -110,7 +109,7 @@ pub record UnequalIn (r : Record) (f : Field) : Type 0 where
   pub inside : In f at × In f (suc at)
   pub unlike : place at (line_at before file) ≢ place (suc at) (line_at before file)
 
-met : {t : Totals} {r : Record} {f : Field} (file : List ℕ) → check_file file ≡ Accepted t → (n p : ℕ) → AmountIn r f → ReadAt n file r
+met : {t : Totals} {r : Record} {f : Field} (file : List ℕ) → check_file file ≡ Ok t → (n p : ℕ) → AmountIn r f → ReadAt n file r
     → n * line_bytes + suc p ≤ length file → In f p → In f (suc p) → place p (line_at n file) ≢ place (suc p) (line_at n file) → UnequalIn r f
 met file e n p m read inside i k ne = record {
   file = file;

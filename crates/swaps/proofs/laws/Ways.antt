@@ -1,5 +1,5 @@
 -- Each way to be guarded has a place in a file that is accepted: none of the list is said of nothing. Assumes nothing.
-use Rattle.std.specs.Prelude.{◌≡◌, refl, ℕ, zero, suc, ◌+◌, ◌*◌, ◌≤◌, ◌<◌, length, get_or}
+use Rattle.std.specs.Prelude.{◌≡◌, refl, ℕ, zero, suc, ◌+◌, ◌*◌, ◌≤◌, ◌<◌, length, get_or, Ok}
 use mathlib.Core.List.{List, [], ◌∷◌, Memᴰ}
 use Rattle.std.proofs.Common.{arith, lit≤}
 use Rattle.answer.specs.Rules.{first_broken}
@@ -27,7 +27,6 @@ use Rattle.checker.specs.Machine.{direction_of, sound, step_of}
 use Rattle.files.specs.File.{cut, check_file}
 use Rattle.checker.specs.Calls.{left}
 use Rattle.checker.specs.declared.totals.Totals.{Totals}
-use Rattle.files.specs.declared.whole.Outcome.TheVariants.{Accepted}
 use Rattle.promises.specs.Guarded.{Fixed, LetterGuarded, line_at, state_at, ReadAt}
 use Rattle.swaps.specs.Guarded.{AmountIn, CountIn, GuardedField, Guarded, GuardedIn}
 use Rattle.swaps.specs.Guarded as guarded
@@ -94,14 +93,14 @@ way_of (guarded.in_barcode e h q) = barcode_by h
 pub record Witness (way : Way) : Type 0 where
   pub file : List ℕ
   pub in_it : Totals
-  pub accepted : check_file file ≡ Accepted in_it
+  pub accepted : check_file file ≡ Ok in_it
   pub line : ℕ
   pub at : ℕ
   pub there : GuardedIn file line at
   pub so : way_of there.so ≡ way
 
 -- in a line that is read as this record
-in_file : {t : Totals} (file : List ℕ) → check_file file ≡ Accepted t → (n p : ℕ) (r : Record) → ReadAt n file r → n * line_bytes + p ≤ length file
+in_file : {t : Totals} (file : List ℕ) → check_file file ≡ Ok t → (n p : ℕ) (r : Record) → ReadAt n file r → n * line_bytes + p ≤ length file
     → (g : Guarded (direction_of (record_in file)) (state_at n file).batch r (line_at n file) p) → Witness (way_of g)
 in_file file e n p r read inside g = record {
   file = file;

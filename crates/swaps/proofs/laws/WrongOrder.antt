@@ -1,5 +1,5 @@
 -- Request 11 in its own words: an accepted file, any line of it, two neighbouring places that hold unequal bytes, swapped. Assumes nothing.
-use Rattle.std.specs.Prelude.{◌≢◌, List, ◌≡◌, ℕ, suc, ◌≤◌, ◌<◌, length}
+use Rattle.std.specs.Prelude.{◌≢◌, List, ◌≡◌, ℕ, suc, ◌≤◌, ◌<◌, length, Err, Ok}
 use Rattle.std.proofs.Common.{arith}
 use Rattle.answer.specs.declared.Refusal.{Refusal}
 use Rattle.digits.specs.Digits.{digit_byte, place}
@@ -9,18 +9,17 @@ use Rattle.checker.specs.Line.{line_bytes, record_in}
 use Rattle.checker.specs.Machine.{direction_of}
 use Rattle.files.specs.File.{lines_of, check_file}
 use Rattle.checker.specs.declared.totals.Totals.{Totals}
-use Rattle.files.specs.declared.whole.Outcome.TheVariants.{Accepted, Refused}
 use Rattle.promises.specs.Guarded.{On, line_at, state_at, ReadAt}
 use Rattle.swaps.specs.Guarded.{GuardedPair, swapped_at}
 use Rattle.swaps.proofs.laws.Listed.{PairsListed, pairs_listed}
 use Rattle.swaps.proofs.laws.Change.{swap_refused}
 use Rattle.swaps.proofs.laws.EveryLine.{file_long}
 
-module _ (file : List ℕ) (t : Totals) (n p : ℕ) (e : check_file file ≡ Accepted t) (h : n < length (lines_of file))
+module _ (file : List ℕ) (t : Totals) (n p : ℕ) (e : check_file file ≡ Ok t) (h : n < length (lines_of file))
     (unequal : place p (line_at n file) ≢ place (suc p) (line_at n file)) where
   -- refused with the two swapped
   abbrev pub Refusing : Type 0
-  Refusing = (r : Refusal) × (check_file (swapped_at file n p) ≡ Refused r)
+  Refusing = (r : Refusal) × (check_file (swapped_at file n p) ≡ Err r)
 
   -- by what is listed of a line that is read as this record
   refused : {r : Record} → ReadAt n file r → GuardedPair (direction_of (record_in file)) (state_at n file).batch r (line_at n file) p → suc p ≤ line_bytes → Refusing

@@ -1,17 +1,15 @@
--- `walk::check_fields` meets its contract: the arrays are the table's columns, which antt computes. Assumes nothing.
-use mathlib.Core.Path.{refl, ◌∙◌}
-use borrow.Author.Rules.{rules}
+-- `walk::check_fields` meets its contract. Assumes nothing.
+use mathlib.Core.Path.{◌∙◌}
 use borrow.Author.Tests.{eq-eqb, ne_eqb}
+use Rattle.std.proofs.lemmas.Option.{MatchOption-at_none, MatchOption-at_some}
 use Rattle.answer.proofs.laws.Order.{past, here}
-use Rattle.layout.specs.Table.{fields_of, fields_of_each, all}
 use Rattle.walk.proofs.check_fields.Goals as goal
 
-pub returns-then-rec-ne-RECORD_BYTES : goal.returns-then-rec-ne-RECORD_BYTES
-returns-then-rec-ne-RECORD_BYTES c = c.refused.ensures ∙ here _ _ _ _ (ne_eqb _ _ c.if-rec-ne-RECORD_BYTES.true)
-
-pub check_fields-requires : goal.check_fields-requires
-unfolding all fields_of_each fields_of
-check_fields-requires c = record { columns = record { froms = refl; tos = refl; kinds_of = refl }; rec_len = search rules; masked_value = search rules }
+pub returns-in_default : goal.returns-in_default
+returns-in_default c =
+    c.refused.ensures ∙ here _ _ _ _ (ne_eqb _ _ (MatchOption-at_none _ _ c.in_default.is c.as_array.ensures.cases))
 
 pub returns : goal.returns
-returns c = past _ _ _ _ _ (eq-eqb _ _ c.if-rec-ne-RECORD_BYTES.false) c.check_fields.ensures
+returns c =
+    let whole = MatchOption-at_some _ _ _ c.in-Some.is c.as_array.ensures.cases in
+    past _ _ _ _ _ (eq-eqb _ _ whole.long) (c.check_fields.ensures ∙ rw whole.same)

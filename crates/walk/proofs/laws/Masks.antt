@@ -1,5 +1,5 @@
 -- Where a record's bytes lie between its masks, the rules are kept of each field whose mask is all that they ask. Assumes nothing.
-use Rattle.std.specs.Prelude.{◌≡◌, refl, Bool, true, false, cond, ◌&&◌, ◌||◌, leb, ltb, eqb, length, get_or, take, drop, replicate}
+use Rattle.std.specs.Prelude.{◌≡◌, refl, Bool, true, false, cond, ◌&&◌, ◌||◌, leb, ltb, eqb, length, get_or, take, drop, replicate, Ok}
 use Rattle.std.proofs.Common.{sym, ap, ◌∙◌, add-zero, le_of_suc-le-suc, not-suc-le-zero, le_antisymm, add-one, leb-true, eq-eqb, eqb→eq, leb→le, drop-cons, get_or-drop, drop-drop, ext_get_or}
 use Rattle.std.proofs.Math.Path.{subst}
 use mathlib.Core.List.{List, [], ◌∷◌, ◌++◌}
@@ -11,7 +11,6 @@ use Rattle.std.proofs.Math.Dec.{T}
 use Rattle.std.proofs.lemmas.List.{length-replicate, get_or-replicate}
 use Rattle.answer.specs.Rules.{rule, first_broken}
 use Rattle.answer.proofs.laws.Order.{past, done}
-use Rattle.answer.specs.declared.Answer.TheVariants.{Accepted}
 use Rattle.digits.specs.Digits.{all_digits}
 use Rattle.digits.proofs.laws.Strings.{all_leading}
 use Rattle.digits.specs.inner.Rows.{tab}
@@ -77,7 +76,7 @@ row_among (suc n) a b l h = go (eqb b a) refl (λ k. row_among n (suc a) b k (om
     go false q later = let other = eqb-false b a q in later (omega arith)
 
 module _ (d : Direction) (place : ℕ) (bs whole : List ℕ) where
-  kept : (number : ℕ) {test : Bool} → test ≡ true → first_broken (rule number place test ∷ []) ≡ Accepted
+  kept : (number : ℕ) {test : Bool} → test ≡ true → first_broken (rule number place test ∷ []) ≡ Ok tt
   kept number e = sym (past _ _ _ _ _ e done)
 
   digits_kept : Bounded (λ i. 48) (λ i. 57) bs → all_digits bs ≡ true
@@ -106,11 +105,11 @@ module _ (d : Direction) (place : ℕ) (bs whole : List ℕ) where
           rw (eq-eqb (length bs) 1 one) (subst (λ (l : List ℕ). among (get_or bs 0 0) (x ∷ l) ≡ true) (same_true _ _ q) (row_among (length xs) x (get_or bs 0 0) bound.0 bound.1))
       go false q b e = cc
 
-  blank_kept : (way : Direction) → Bounded (λ i. blank) (λ i. highest_in way) bs → first_broken ((means O).rules (a_part place bs whole way)) ≡ Accepted
+  blank_kept : (way : Direction) → Bounded (λ i. blank) (λ i. highest_in way) bs → first_broken ((means O).rules (a_part place bs whole way)) ≡ Ok tt
   blank_kept Remittance b = kept 12 (run_kept blank b)
   blank_kept Return b = sym done
 
-  kind_kept : (k : Kind) → T (may_be k (length bs)) → Bounded (mask_of k).low ((mask_of k).high d) bs → (mask_of k).enough ≡ true → first_broken ((means k).rules (a_part place bs whole d)) ≡ Accepted
+  kind_kept : (k : Kind) → T (may_be k (length bs)) → Bounded (mask_of k).low ((mask_of k).high d) bs → (mask_of k).enough ≡ true → first_broken ((means k).rules (a_part place bs whole d)) ≡ Ok tt
   kind_kept N m b e = kept 8 (digits_kept b)
   kind_kept NOrBlank m b e = kept 8 (rw (digits_kept b))
   kind_kept Id m b e = kept 8 (digits_fit (registration_at place whole) bs (leb→le _ _ m) (digits_kept b))

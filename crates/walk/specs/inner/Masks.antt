@@ -1,7 +1,6 @@
 -- The masks of a record: a lowest and a highest byte for each place. Assumes nothing.
-use Rattle.std.specs.Prelude.{◌≡◌, Bool, true, false, cond, ◌&&◌, List, [], ◌∷◌, ◌++◌, ℕ, zero, suc, ◌+◌, ◌≤◌, ◌<◌, leb, length, get_or, drop}
+use Rattle.std.specs.Prelude.{◌≡◌, Bool, true, false, cond, ◌&&◌, List, [], ◌∷◌, ◌++◌, ℕ, zero, suc, ◌+◌, ◌≤◌, ◌<◌, leb, length, get_or, drop, Ok}
 use Rattle.answer.specs.Rules.{first_broken}
-use Rattle.answer.specs.declared.Answer.TheVariants.{Accepted}
 use Rattle.digits.specs.Digits.{digit_byte}
 use Rattle.digits.specs.inner.Rows.{tab}
 use Rattle.layout.specs.Field.{Kind, N, NOrBlank, Id, T, F, D, Time, K, O, Zeros, Exact, OneOf, Service, Form, Barcode, Code, RecordType, Segment, Field, none}
@@ -86,7 +85,7 @@ within low high (b ∷ bs) = (leb (get_or low 0 0) b && leb b (get_or high 0 0))
 
 -- a field's rules are kept, if its mask is all that they ask
 abbrev pub Right : Direction → List ℕ → Field → Type 0
-Right d rec f = (mask_of f.kind).enough ≡ true → first_broken (field_rules f d rec) ≡ Accepted
+Right d rec f = (mask_of f.kind).enough ≡ true → first_broken (field_rules f d rec) ≡ Ok tt
 
 -- so at each field of the table from one index up to another, if that is known
 pub record Known (masked : Bool) (first past : ℕ) (d : Direction) (rec : List ℕ) : Type 0 where

@@ -1,8 +1,7 @@
 -- What the private steps of the walk leave, for their contracts. Assumes nothing.
-use Rattle.std.specs.Prelude.{◌≡◌, cond, List, [], ◌∷◌, ℕ, ltb, eqb, length, get_or}
+use Rattle.std.specs.Prelude.{◌≡◌, cond, List, [], ◌∷◌, ℕ, ltb, eqb, length, get_or, Ok}
 use Rattle.answer.specs.Rules.{rule, first_broken}
-use Rattle.answer.specs.declared.Answer.{Answer}
-use Rattle.answer.specs.declared.Answer.TheVariants.{Accepted}
+use Rattle.answer.specs.Rules.{Answer}
 use Rattle.digits.specs.Digits.{all_digits}
 use Rattle.layout.specs.inner.Lent.{first_letter, content_of}
 use Rattle.layout.specs.Field.{Kind}
@@ -24,7 +23,7 @@ abbrev pub mark_look : ℕ → Look
 mark_look b = cond (ltb b first_letter) (Fixed 6 (Run b)) (Fixed 11 (Run b))
 
 abbrev pub text_look : List ℕ → Look
-text_look bs = cond (eqb (get_or bs 0 0) blank) (Fixed 13 (Run blank)) (Tested Accepted)
+text_look bs = cond (eqb (get_or bs 0 0) blank) (Fixed 13 (Run blank)) (Tested (Ok tt))
 
 abbrev pub number_or_blank_look : List ℕ → Look
 number_or_blank_look bs = cond (eqb (get_or bs 0 0) blank) (Fixed 8 (Run blank)) Digits

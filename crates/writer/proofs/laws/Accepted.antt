@@ -1,10 +1,9 @@
 -- What an accepted call keeps. Assumes nothing.
-use Rattle.std.specs.Prelude.{◌≡◌, true, List, [], ◌∷◌, ◌++◌, ℕ, ◌≤◌, length, drop}
+use Rattle.std.specs.Prelude.{◌≡◌, true, List, [], ◌∷◌, ◌++◌, ℕ, ◌≤◌, length, drop, Ok}
 use Rattle.std.proofs.Common.{leb-true, le-leb}
 use Rattle.answer.specs.Rules.{Rule, first_broken, AllKept, rules_on_line}
 use Rattle.answer.proofs.laws.Order.{none_kept, more_kept, kept_accepted, accepted_kept, kept_front, kept_behind, kept_join}
 use Rattle.answer.specs.declared.LineNo.{LineNo}
-use Rattle.answer.specs.declared.Answer.TheVariants.{Accepted}
 use Rattle.layout.specs.Table.{fields_of}
 use Rattle.layout.specs.Records.{is_one_of}
 use Rattle.layout.specs.Record.{rules_of, all_printable}
@@ -40,7 +39,7 @@ unfolding AllKept
 on_line line [] k = tt
 on_line line (r ∷ rs) k = (k.0, on_line line rs k.1)
 
-pub kept : (w : Writer) (c : Call) (out : List ℕ) → answer_of w c out ≡ Accepted → Kept w c out
+pub kept : (w : Writer) (c : Call) (out : List ℕ) → answer_of w c out ≡ Ok tt → Kept w c out
 unfolding AllKept answer_of call_rules
 kept w c out e =
     let s = w.checker in
@@ -59,7 +58,7 @@ kept w c out e =
     }
 
 -- and what keeps them is accepted
-pub kept_call : (w : Writer) (c : Call) (out : List ℕ) → Kept w c out → answer_of w c out ≡ Accepted
+pub kept_call : (w : Writer) (c : Call) (out : List ℕ) → Kept w c out → answer_of w c out ≡ Ok tt
 unfolding answer_of call_rules
 kept_call w c out k =
     let s = w.checker in
@@ -88,7 +87,7 @@ module _ (expected : List (List Record)) (s : Checker) (g : Fields) (gs : List F
 pub record WellMade (s : Checker) (g : Fields) : Type 0 where
   pub whole : Whole g
   pub printable : all_printable (bytes_of s g) ≡ true
-  pub fields : first_broken (rules_of (fields_of g.which) s.dir (bytes_of s g)) ≡ Accepted
+  pub fields : first_broken (rules_of (fields_of g.which) s.dir (bytes_of s g)) ≡ Ok tt
 
 -- it is right: the kind that is expected too, and what the house asks
 pub record Right (expected : List Record) (s : Checker) (g : Fields) : Type 0 where

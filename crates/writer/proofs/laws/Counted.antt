@@ -1,12 +1,10 @@
 -- The checker counts what an accepted call puts in. Assumes nothing.
-use Rattle.std.specs.Prelude.{◌≡◌, refl, true, List, [], ◌∷◌, ℕ, suc, ◌+◌, ◌-◌, ◌<◌, eqb, length, drop}
+use Rattle.std.specs.Prelude.{◌≡◌, refl, true, List, [], ◌∷◌, ℕ, suc, ◌+◌, ◌-◌, ◌<◌, eqb, length, drop, Ok, Some}
 use Rattle.std.proofs.Common.{sym, ap, ap₂, subst, ◌∙◌, arith, ltb-true, le-leb, lit≤}
 use Rattle.answer.specs.Limits.{file_cents}
 use Rattle.answer.specs.Rules.{AllKept}
-use Rattle.answer.specs.declared.Answer.TheVariants.{Accepted}
 use Rattle.digits.specs.Digits.{place}
 use Rattle.digits.specs.Numbers.{number_of, value}
-use Rattle.digits.specs.declared.spelling.Number.TheVariants.{Is}
 use Rattle.digits.proofs.laws.Strings.{one_place}
 use Rattle.digits.proofs.laws.Numerals.{digit_told, given as digits_of}
 use Rattle.layout.specs.Records.{credit_amount, boleto_amount, collection_amount}
@@ -40,7 +38,7 @@ use Rattle.writer.proofs.laws.Lines.{bytes_length}
 
 -- ---- one record
 
-value_is : (bs : List ℕ) (n : ℕ) → number_of bs ≡ Is n → value bs ≡ n
+value_is : (bs : List ℕ) (n : ℕ) → number_of bs ≡ Some n → value bs ≡ n
 value_is bs n e = let g = digits_of bs n e in rw (le-leb (length bs) _ g.few) (sym g.is)
 
 -- what the caller gives of a payment
@@ -69,7 +67,7 @@ unfolding fields_of index_of before
 movement_in_o = record { stands = stands_at _ _ (lit≤ tt) refl; number = refl; unfilled = λ s. refl }
 
 -- the byte says withdrawn exactly if the number that it is read as does
-told : (rec : List ℕ) (n : ℕ) → length rec ≡ record_bytes → number_of (part movement_field rec) ≡ Is n → withdraws rec ≡ eqb n withdrawal
+told : (rec : List ℕ) (n : ℕ) → length rec ≡ record_bytes → number_of (part movement_field rec) ≡ Some n → withdraws rec ≡ eqb n withdrawal
 told rec n long e = digit_told (place movement_field.from rec) n withdrawal (rw (one_place (movement_field.from - 1) rec (omega arith)) at e)
 
 module _ {expected : List Record} {s : Checker} {r : Record} (v : Fields) (t : Right expected s (of_record r v)) where
@@ -131,7 +129,7 @@ payment_counts s g gs (accepted.more x on) =
 
 -- ---- a call
 
-pub call_counted : (w : Writer) (c : Call) (out : List ℕ) → AllWhole (records_of c) → answer_of w c out ≡ Accepted
+pub call_counted : (w : Writer) (c : Call) (out : List ℕ) → AllWhole (records_of c) → answer_of w c out ≡ Ok tt
     → counted (behind_all w.checker (records_of c)) ≡ add (counted w.checker) (put_by c)
 unfolding counts_all
 call_counted w c out whole e = all_counted rs ∙ ap (add (counted s)) (puts c rs)
@@ -154,7 +152,7 @@ pub put_together : (p : Payment) → InAll 1 (amount_in p) (put_by (pay p))
 put_together p = let t = both_parts (is_withdrawn p) (tally 1 (amount_in p)) in record { payments_are = t.0; cents_are = t.1 }
 
 -- an accepted call leaves the sum of the file below its limit
-pub call_cents : (w : Writer) (c : Call) (out : List ℕ) → AllWhole (records_of c) → answer_of w c out ≡ Accepted
+pub call_cents : (w : Writer) (c : Call) (out : List ℕ) → AllWhole (records_of c) → answer_of w c out ≡ Ok tt
     → cents_so_far w.checker < file_cents → cents_so_far (behind_all w.checker (records_of c)) < file_cents
 unfolding add AllKept
 call_cents w c out h e l = omega (arith, ap cent_sum (call_counted w c out h e), few c (kept w c out e).sums)

@@ -1,10 +1,9 @@
 -- The phase that an accepted call leaves: closing the file ends it, and behind that every call is refused. Assumes nothing.
-use Rattle.std.specs.Prelude.{◌≡◌, refl, true, List, ◌⊎◌, ℕ, zero, suc, ◌≤◌, ◌<◌, length, drop}
+use Rattle.std.specs.Prelude.{◌≡◌, refl, true, List, ◌⊎◌, ℕ, zero, suc, ◌≤◌, ◌<◌, length, drop, Err, Ok}
 use Rattle.std.proofs.Common.{sym, ap, subst, ◌∙◌, inl, inr, ⊎_elim, arith, lt-ltb, le-ltb}
 use Rattle.std.proofs.Math.Decide.{dec_lt}
 use Rattle.answer.specs.Rules.{AllKept, first_broken, refusal}
 use Rattle.answer.proofs.laws.Order.{never}
-use Rattle.answer.specs.declared.Answer.TheVariants.{Accepted, Refused}
 use Rattle.fields.specs.declared.Fields.{Fields}
 use Rattle.layout.specs.declared.Record.{Record}
 use Rattle.checker.specs.Order.{payment, ended}
@@ -48,7 +47,7 @@ payment_phase : (s : Checker) (p : Payment) → MayPay s → AllKept (all_given 
 payment_phase s p m k = inside_phase {n = length (records_in p)} (subst (λ (n : ℕ). Inside s n (behind_all s (records_in p))) (omega arith) (inside_all 0 (records_in p) (before m) k))
 
 -- an accepted call leaves its phase
-pub phase_after : (w : Writer) (c : Call) (out : List ℕ) → answer_of w c out ≡ Accepted → (state_behind w (lent c out)).checker.phase ≡ phase_by w.checker c
+pub phase_after : (w : Writer) (c : Call) (out : List ℕ) → answer_of w c out ≡ Ok tt → (state_behind w (lent c out)).checker.phase ≡ phase_by w.checker c
 unfolding behind_all
 phase_after w (open_file v) out e = rw e
 phase_after w (open_batch v) out e = rw e
@@ -60,7 +59,7 @@ phase_after w (close_file v) out e = rw e
 
 -- ---- closing the file ends it, and nothing else does
 
-pub closes : (w : Writer) (v : Fields) (out : List ℕ) → answer_of w (close_file v) out ≡ Accepted
+pub closes : (w : Writer) (v : Fields) (out : List ℕ) → answer_of w (close_file v) out ≡ Ok tt
     → (state_behind w (lent (close_file v) out)).checker.phase ≡ Ended
 closes w v out e = phase_after w (close_file v) out e
 
@@ -96,13 +95,13 @@ closing_phase s (pay p) k e = ⊎_elim (λ q. never (ap ended (sym q ∙ e))) (�
 closing_phase s (close_batch v) k e = never (ap ended e)
 closing_phase s (close_file v) k e = closing v
 
-pub closed_by : (w : Writer) (c : Call) (out : List ℕ) → answer_of w c out ≡ Accepted → (state_behind w (lent c out)).checker.phase ≡ Ended → Closing c
+pub closed_by : (w : Writer) (c : Call) (out : List ℕ) → answer_of w c out ≡ Ok tt → (state_behind w (lent c out)).checker.phase ≡ Ended → Closing c
 closed_by w c out e end = closing_phase w.checker c (kept w c out e).records (sym (phase_after w c out e) ∙ end)
 
 -- ---- behind that every call is refused: of any state that is held, and so of any that calls leave
 
 pub ended_refuses : (w : Writer) → held w.checker ≡ true → w.checker.phase ≡ Ended
-    → (c : Call) (out : List ℕ) → answer_of w c out ≡ Refused (refusal 51 (line_of w.checker) 0)
+    → (c : Call) (out : List ℕ) → answer_of w c out ≡ Err (refusal 51 (line_of w.checker) 0)
 unfolding answer_of call_rules first_broken
 ended_refuses w h e (open_file v) out = rw (h, e)
 ended_refuses w h e (open_batch v) out = rw (h, e)
@@ -111,5 +110,5 @@ ended_refuses w h e (close_batch v) out = rw (h, e)
 ended_refuses w h e (close_file v) out = rw (h, e)
 
 pub file_ended : (ls : List Lent) → WholeCalls ls → (left new_writer ls).checker.phase ≡ Ended
-    → (c : Call) (out : List ℕ) → answer_of (left new_writer ls) c out ≡ Refused (refusal 51 (line_of (left new_writer ls).checker) 0)
+    → (c : Call) (out : List ℕ) → answer_of (left new_writer ls) c out ≡ Err (refusal 51 (line_of (left new_writer ls).checker) 0)
 file_ended ls h e = ended_refuses (left new_writer ls) (never_guarded ls h) e

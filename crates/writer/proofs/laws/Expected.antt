@@ -1,5 +1,5 @@
 -- The records of a payment, by what is expected at each position. Assumes nothing.
-use Rattle.std.specs.Prelude.{◌≡◌, refl, Bool, true, false, not, ◌&&◌, ◌||◌, List, [], ◌∷◌, ℕ, zero, suc, ◌≤◌, ◌<◌, eqb, length, take, drop}
+use Rattle.std.specs.Prelude.{◌≡◌, refl, Bool, true, false, not, ◌&&◌, ◌||◌, List, [], ◌∷◌, ℕ, zero, suc, ◌≤◌, ◌<◌, eqb, length, take, drop, None, Some}
 use Rattle.std.proofs.Common.{sym, ap, arith, eq-eqb, ne_eqb, length-drop}
 use Rattle.std.proofs.Math.Bool.{and-false}
 use Rattle.std.proofs.Math.Decide.{dec_le}
@@ -18,7 +18,6 @@ use Rattle.fields.specs.Values.{nth, or_zero}
 use Rattle.fields.specs.declared.Fields.{Fields}
 use Rattle.checker.specs.Order.{payment, record_at, reading_of}
 use Rattle.checker.specs.Line.{found}
-use Rattle.checker.specs.declared.order.Reading.TheVariants.{Line, Nothing}
 use Rattle.checker.specs.Totals.{tally, no_payments, live, withdrawn, totals, bare, only, batches_of}
 use Rattle.checker.specs.declared.totals.Tally.{Tally}
 use Rattle.checker.specs.declared.totals.Totals.{Totals}
@@ -111,17 +110,17 @@ module _ (d : Direction) {b : Batch} {n : ℕ} where
   expected_own {r} g = rw (own_position g) (itself r)
 
 -- as the code reads it
-pub own_reading : (d : Direction) (b : Batch) (n : ℕ) (r q : Record) → reading_of (record_at n b) ≡ Line q → expected_at n d b r ≡ eqb (code r) (code q) || false
+pub own_reading : (d : Direction) (b : Batch) (n : ℕ) (r q : Record) → reading_of (record_at n b) ≡ Some q → expected_at n d b r ≡ eqb (code r) (code q) || false
 own_reading d b n r q e = go (drop n (payment b)) refl e
   where
-    go : (rs : List Record) → drop n (payment b) ≡ rs → reading_of (take 1 rs) ≡ Line q → expected_at n d b r ≡ eqb (code r) (code q) || false
+    go : (rs : List Record) → drop n (payment b) ≡ rs → reading_of (take 1 rs) ≡ Some q → expected_at n d b r ≡ eqb (code r) (code q) || false
     go [] h e = never (ap found e)
     go (x ∷ rs) h e = let same : x ≡ q = cc in rw (own_position d {b = b} {n = n} (record { is = ap (take 1) h }), same)
 
-pub no_reading : (n : ℕ) (b : Batch) → reading_of (record_at n b) ≡ Nothing → record_at n b ≡ []
+pub no_reading : (n : ℕ) (b : Batch) → reading_of (record_at n b) ≡ None → record_at n b ≡ []
 no_reading n b e = go (drop n (payment b)) e
   where
-    go : (rs : List Record) → reading_of (take 1 rs) ≡ Nothing → take 1 rs ≡ []
+    go : (rs : List Record) → reading_of (take 1 rs) ≡ None → take 1 rs ≡ []
     go [] e = refl
     go (x ∷ rs) e = never (sym (ap found e))
 

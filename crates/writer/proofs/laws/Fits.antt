@@ -1,11 +1,10 @@
 -- What 20, 23 and 25 are for: in every state that calls leave, the file has room for the records that close it, and the numbers that the writer fills
 -- fit their fields. Assumes nothing.
-use Rattle.std.specs.Prelude.{◌≡◌, refl, true, List, [], ◌∷◌, ℕ, ◌+◌, ◌-◌, ◌^◌, ◌≤◌, ◌<◌, length}
+use Rattle.std.specs.Prelude.{◌≡◌, refl, true, List, [], ◌∷◌, ℕ, ◌+◌, ◌-◌, ◌^◌, ◌≤◌, ◌<◌, length, Err, Ok}
 use Rattle.std.proofs.Common.{ap, ⊎_elim, arith, leb-true, lit<, lit≤, length-take}
 use Rattle.answer.specs.Limits.{most_records}
 use Rattle.answer.specs.Rules.{AllKept}
-use Rattle.answer.specs.declared.Answer.{Answer}
-use Rattle.answer.specs.declared.Answer.TheVariants.{Accepted, Refused}
+use Rattle.answer.specs.Rules.{Answer}
 use Rattle.digits.proofs.laws.Numerals.{value_lt}
 use Rattle.layout.specs.Field.{part}
 use Rattle.layout.specs.Table.{bank_field}
@@ -107,13 +106,13 @@ unfolding add
 call_roomy w c out whole h = go (answer_of w c out) refl
   where
     go : (a : Answer) → answer_of w c out ≡ a → Roomy (state_after a w (records_of c)).checker
-    go Accepted e =
+    go (Ok tt) e =
         let records = ap (λ (t : Totals). t.records.0) (call_counted w c out whole e) in
         let phase : (behind_all w.checker (records_of c)).phase ≡ phase_by w.checker c = rw e at (phase_after w c out e) in
         let k = kept w c out e in
         let open-now = opens w.checker c (rights (expected_in c w.checker) w.checker whole k.records) in
         rw phase (omega (arith, turn_room c w.checker (behind_all w.checker (records_of c)).batch k.first k.records open-now h))
-    go (Refused r) e = h
+    go (Err r) e = h
 
 calls_roomy : (w : Writer) {ls : List Lent} → WholeCalls ls → Roomy w.checker → Roomy (left w ls).checker
 unfolding left
@@ -141,8 +140,8 @@ all_bank s [] h = h
 all_bank s (g ∷ gs) h = all_bank (next_by s g) gs (next_bank s g.which (bytes_of s g) h)
 
 call_bank : (a : Answer) (w : Writer) (gs : List Fields) → w.checker.bank < 10 ^ 3 → (state_after a w gs).checker.bank < 10 ^ 3
-call_bank Accepted w gs h = all_bank w.checker gs h
-call_bank (Refused r) w gs h = h
+call_bank (Ok tt) w gs h = all_bank w.checker gs h
+call_bank (Err r) w gs h = h
 
 calls_bank : (w : Writer) (ls : List Lent) → w.checker.bank < 10 ^ 3 → (left w ls).checker.bank < 10 ^ 3
 unfolding left

@@ -86,7 +86,7 @@ one_o Collection g h = one_stands g (record { is = refl })
 
 -- fields of an O are taken as they are
 taken_o : (v : Fields) → v.which ≡ SegmentO → taken_as SegmentO v ≡ v
-taken_o v e = rw (eq-eqb (code v.which) (code SegmentO) (ap code e)) (λ i. record { which = sym e i; numbers = v.numbers; given = v.given; text = v.text })
+taken_o v e = rw (eq-eqb (code v.which) (code SegmentO) (ap code e)) (λ i. record { which = sym e i; numbers = v.numbers; text = v.text })
 
 pub as_payment : (b : Batch) (g : Fields) (gs : List Fields) → Stands b 0 g.which → length (payment b) ≤ length (g ∷ gs) → length (g ∷ gs) ≤ most_details
     → (p : Payment) × (records_in p ≡ g ∷ gs)

@@ -1,13 +1,12 @@
 -- Fields that were read from a record, given back in the state that it fits: the writer fills what stands there already, and writes the record
 -- again. Assumes nothing.
-use Rattle.std.specs.Prelude.{◌≡◌, Bool, true, false, cond, List, ℕ, ◌+◌, ltb, length, get_or, set}
+use Rattle.std.specs.Prelude.{◌≡◌, Bool, true, false, cond, List, ℕ, ◌+◌, ltb, length, set, None, Some}
 use Rattle.std.proofs.Math.Path.{refl, ap}
 use Rattle.std.proofs.Common.{sym, ◌∙◌, lit≤}
 use Rattle.std.proofs.lemmas.List.{set-get_or}
 use Rattle.answer.proofs.laws.Order.{kept_accepted}
 use Rattle.digits.specs.Digits.{digit_byte}
 use Rattle.digits.specs.Numbers.{number_of}
-use Rattle.digits.specs.declared.spelling.Number.TheVariants.{Is}
 use Rattle.layout.specs.Field.{Field, part}
 use Rattle.layout.specs.Records.{shape_of, type_of, is_one_of}
 use Rattle.layout.specs.Table.{record_bytes, bank_field, batch_field, batch_records, batch_sum, file_batches, file_records, fields_of}
@@ -18,7 +17,7 @@ use Rattle.layout.specs.declared.Record.{Record}
 use Rattle.layout.specs.declared.Record.TheVariants.{FileHeader, BatchHeader, BatchTrailer, FileTrailer}
 use Rattle.layout.specs.declared.shapes.LineType.TheVariants.{Detail}
 use Rattle.layout.proofs.laws.Records.{by_type}
-use Rattle.fields.specs.Values.{held_as, number_if, nth, is_given, or_zero, record_of, most_fields, fields_in, set_nth, of_record}
+use Rattle.fields.specs.Values.{held_as, nth, record_of, most_fields, fields_in, set_nth, of_record}
 use Rattle.fields.proofs.laws.RoundTrip.{whole_read, number-in, fields_then_written}
 use Rattle.fields.specs.declared.Fields.{Fields}
 use Rattle.checker.specs.Line.{ordinal, header_batch, trailer_batch}
@@ -31,44 +30,32 @@ use Rattle.writer.proofs.laws.Reads.{Stands, stands_at, at_bank, at_batch, at_nu
 use Rattle.checker.specs.Totals.{batch_count, cent_sum, record_count}
 
 -- a number that stands there already
-flag_given : (b : Bool) (n : ℕ) {k : ℕ} → number_if b n ≡ Is k → b ≡ true
-flag_given true n e = refl
-flag_given false n e = ap is_given e
-
-with_same : (j n : ℕ) (v : Fields) → nth j v ≡ Is n → set_nth j n v ≡ v
+with_same : (j n : ℕ) (v : Fields) → nth j v ≡ Some n → set_nth j n v ≡ v
 with_same j n v e = go (ltb j most_fields)
   where
-    flag : get_or v.given j false ≡ true
-    flag = flag_given (get_or v.given j false) (get_or v.numbers j 0) e
-
-    number : get_or v.numbers j 0 ≡ n
-    number = ap or_zero (rw flag at e)
-
-    go : (b : Bool)
-        → record { which = v.which; numbers = cond b (set v.numbers j n) v.numbers; given = cond b (set v.given j true) v.given; text = v.text } ≡ v
+    go : (b : Bool) → record { which = v.which; numbers = cond b (set v.numbers j (Some n)) v.numbers; text = v.text } ≡ v
     go true =
-        let same_numbers = ap (set v.numbers j) (sym number) ∙ set-get_or v.numbers j 0 in
-        let same_flags = ap (set v.given j) (sym flag) ∙ set-get_or v.given j false in
-        λ i. record { which = v.which; numbers = same_numbers i; given = same_flags i; text = v.text }
+        let same = ap (set v.numbers j) (sym e) ∙ set-get_or v.numbers j None in
+        λ i. record { which = v.which; numbers = same i; text = v.text }
     go false = refl
 
 -- ---- the fields that read what the state counts have it
 
 module _ (s : Checker) (rec : List ℕ) where
-  refilled : {r : Record} {j : ℕ} {f : Field} (k : ℕ) → Stands r j f → held_as f ≡ as_number → number_of (part f rec) ≡ Is k
+  refilled : {r : Record} {j : ℕ} {f : Field} (k : ℕ) → Stands r j f → held_as f ≡ as_number → number_of (part f rec) ≡ Some k
       → set_nth j k (fields_in r rec) ≡ fields_in r rec
   refilled {r} {j} {f} k at a e =
       with_same j k (fields_in r rec) (number-in r rec j at.below (ap held_as at.is ∙ a) ∙ ap (λ (f : Field). number_of (part f rec)) at.is ∙ e)
 
   module _ (r : Record) where
     -- bank and batch, and the number of a detail
-    bank_same : (k : ℕ) → number_of (part bank_field rec) ≡ Is k → set_nth (bank_index r) k (fields_in r rec) ≡ fields_in r rec
+    bank_same : (k : ℕ) → number_of (part bank_field rec) ≡ Some k → set_nth (bank_index r) k (fields_in r rec) ≡ fields_in r rec
     bank_same k = refilled k (at_bank r) refl
 
-    batch_same : (k : ℕ) → number_of (part batch_field rec) ≡ Is k → set_nth (batch_index r) k (fields_in r rec) ≡ fields_in r rec
+    batch_same : (k : ℕ) → number_of (part batch_field rec) ≡ Some k → set_nth (batch_index r) k (fields_in r rec) ≡ fields_in r rec
     batch_same k = refilled k (at_batch r) refl
 
-    in-batch : number_of (part bank_field rec) ≡ Is s.bank → number_of (part batch_field rec) ≡ Is (ordinal s)
+    in-batch : number_of (part bank_field rec) ≡ Some s.bank → number_of (part batch_field rec) ≡ Some (ordinal s)
         → filled_in_batch r s (fields_in r rec) ≡ fields_in r rec
     in-batch a b = ap (set_nth (batch_index r) (ordinal s)) (bank_same s.bank a) ∙ batch_same (ordinal s) b
 

@@ -1,9 +1,8 @@
 -- The memory that calls leave: the file, and behind it what was there. Assumes nothing.
-use Rattle.std.specs.Prelude.{◌≡◌, refl, ℕ, ◌+◌, ◌≤◌, leb, length, take, drop}
+use Rattle.std.specs.Prelude.{◌≡◌, refl, ℕ, ◌+◌, ◌≤◌, leb, length, take, drop, Err, Ok}
 use Rattle.std.proofs.Common.{ap, ◌∙◌, arith, length-append}
 use mathlib.Core.List.{List, [], ◌∷◌, ◌++◌, append_assoc, flatten}
-use Rattle.answer.specs.declared.Answer.{Answer}
-use Rattle.answer.specs.declared.Answer.TheVariants.{Accepted, Refused}
+use Rattle.answer.specs.Rules.{Answer}
 use Rattle.writer.specs.Given.{Call, records_of}
 use Rattle.writer.specs.Refusals.{call_rules}
 use Rattle.writer.specs.Outcome.{new_writer, lines_for, cursor_behind, state_after, output_after, answer_of}
@@ -34,8 +33,8 @@ unfolding flatten
 lays w c out h = go (answer_of w c out) refl
   where
     go : (a : Answer) → answer_of w c out ≡ a → Lays w c out a
-    go Accepted e = record { cursor = rw (lines_size w.checker h); puts = λ l. rw e at (wrote w c out h e) }
-    go (Refused r) e = record { cursor = omega arith; puts = puts_nothing }
+    go (Ok tt) e = record { cursor = rw (lines_size w.checker h); puts = λ l. rw e at (wrote w c out h e) }
+    go (Err r) e = record { cursor = omega arith; puts = puts_nothing }
 
 -- ---- calls one after the other
 

@@ -1,12 +1,11 @@
 -- The numbers that a call is refused with. Assumes nothing.
-use Rattle.std.specs.Prelude.{◌≡◌, refl, Bool, true, ◌&&◌, ◌||◌, List, [], ◌∷◌, ℕ, suc, ◌<◌, leb, eqb, length, get_or, drop}
+use Rattle.std.specs.Prelude.{◌≡◌, refl, Bool, true, ◌&&◌, ◌||◌, List, [], ◌∷◌, ℕ, suc, ◌<◌, leb, eqb, length, get_or, drop, Err, Option, None, Some}
 use Rattle.std.proofs.Common.{ap, ◌∙◌, zero-le, suc-le-suc}
 use Rattle.answer.specs.Rules.{Rule, rules_on_line}
 use Rattle.answer.proofs.laws.Only as only
 use Rattle.answer.proofs.laws.Only.{Only, none, more, past, join, broken_so}
 use Rattle.answer.specs.declared.LineNo.{LineNo}
 use Rattle.answer.specs.declared.Refusal.{Refusal}
-use Rattle.answer.specs.declared.Answer.TheVariants.{Refused}
 use Rattle.layout.specs.Field.{Kind, N, NOrBlank, Id, T as Text, F, D, Time, K, O, Zeros, Exact, OneOf, Service, Form, Barcode, Code, RecordType, Segment, Field, part, none as no_field}
 use Rattle.layout.specs.Table.{fields_of}
 use Rattle.layout.specs.Records.{shape_of, is_one_of}
@@ -17,9 +16,8 @@ use Rattle.layout.specs.declared.Direction.{Direction}
 use Rattle.layout.specs.declared.Direction.TheVariants.{Remittance, Return}
 use Rattle.layout.specs.declared.Record.{Record}
 use Rattle.layout.specs.declared.shapes.House.{House}
-use Rattle.layout.specs.declared.shapes.House.TheVariants.{NoRules, RulesOfJ, OneId, ThreeIds, RulesOfO}
+use Rattle.layout.specs.declared.shapes.House.TheVariants.{RulesOfJ, OneId, ThreeIds, RulesOfO}
 use Rattle.fields.specs.Values.{held_as, nth, rendered}
-use Rattle.digits.specs.declared.spelling.Number.{Number}
 use Rattle.fields.proofs.laws.Parts.{holds}
 use Rattle.fields.specs.declared.Fields.{Fields}
 use Rattle.checker.specs.Line.{house_by, boleto_rules, collection_rules}
@@ -54,7 +52,7 @@ blanks Remittance p = one refl
 blanks Return p = none
 
 -- the type's rule alone names another number, 6, and is kept: the type is rendered
-kind : (k : Kind) (p : Part) (n : Number) (text : List ℕ) → p.bytes ≡ rendered (means k).held n text → Writes ((means k).rules p)
+kind : (k : Kind) (p : Part) (n : Option ℕ) (text : List ℕ) → p.bytes ≡ rendered (means k).held n text → Writes ((means k).rules p)
 kind N p n text e = one refl
 kind NOrBlank p n text e = one refl
 kind Id p n text e = one refl
@@ -75,7 +73,7 @@ kind (RecordType b) p n text e = past (ap (same (b ∷ [])) e ∙ same_self (b �
 kind (Segment b) p n text e = one refl
 
 -- fields that are rendered from numbers and a text
-fields : (fs : List Field) (d : Direction) (rec : List ℕ) (n : ℕ → Number) (text : List ℕ)
+fields : (fs : List Field) (d : Direction) (rec : List ℕ) (n : ℕ → Option ℕ) (text : List ℕ)
     → ((j : ℕ) → j < length fs → let f = get_or fs j no_field in part f rec ≡ rendered (held_as f) (n j) (part f text)) → Writes (rules_of fs d rec)
 unfolding rules_of
 fields [] d rec n text h = none
@@ -83,13 +81,13 @@ fields (f ∷ fs) d rec n text h =
     join (kind f.kind (part_of f d rec) (n 0) (part f text) (h 0 (suc-le-suc zero-le)))
     (fields fs d rec (λ j. n (suc j)) text (λ j l. h (suc j) (suc-le-suc l)))
 
-house : (h : House) (rec : List ℕ) → Writes (house_by h rec)
+house : (h : Option House) (rec : List ℕ) → Writes (house_by h rec)
 unfolding boleto_rules collection_rules
-house NoRules rec = none
-house RulesOfJ rec = more refl (more refl (more refl (one refl)))
-house OneId rec = one refl
-house ThreeIds rec = more refl (more refl (one refl))
-house RulesOfO rec = more refl (more refl (one refl))
+house None rec = none
+house (Some RulesOfJ) rec = more refl (more refl (more refl (one refl)))
+house (Some OneId) rec = one refl
+house (Some ThreeIds) rec = more refl (more refl (one refl))
+house (Some RulesOfO) rec = more refl (more refl (one refl))
 
 given : (expected : Bool) (s : Checker) (g : Fields) → Whole g → Writes (given_rules expected g.which s.dir (bytes_of s g))
 unfolding given_rules
@@ -120,7 +118,7 @@ sums (close_batch v) s = none
 sums (close_file v) s = none
 
 -- the writer never answers 1, 2, 3, 5, 6, 7, 9, 10, 21, 22 or 40 to 44
-pub never_others : (w : Writer) (c : Call) (out : List ℕ) → AllWhole (records_of c) → (r : Refusal) → answer_of w c out ≡ Refused r
+pub never_others : (w : Writer) (c : Call) (out : List ℕ) → AllWhole (records_of c) → (r : Refusal) → answer_of w c out ≡ Err r
     → writes r.number ≡ true
 unfolding call_rules
 never_others w c out whole r e =

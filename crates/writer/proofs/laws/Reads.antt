@@ -1,11 +1,9 @@
 -- In a well made record each field that is held as a number gives it: the caller's, or what the writer fills. Assumes nothing.
-use Rattle.std.specs.Prelude.{◌≡◌, refl, false, List, [], ◌∷◌, ◌++◌, ℕ, ◌<◌, length, get_or}
+use Rattle.std.specs.Prelude.{◌≡◌, refl, false, List, [], ◌∷◌, ◌++◌, ℕ, ◌<◌, length, get_or, Option, Some}
 use Rattle.std.proofs.Common.{ap, ◌∙◌, arith, lit≤, length-append}
 use Rattle.std.proofs.Math.ListN.{get_or-append}
 use Rattle.digits.specs.Digits.{digit_byte}
 use Rattle.digits.specs.Numbers.{number_of}
-use Rattle.digits.specs.declared.spelling.Number.{Number}
-use Rattle.digits.specs.declared.spelling.Number.TheVariants.{Is}
 use Rattle.layout.specs.Field.{Field, part, none}
 use Rattle.layout.specs.Table.{line, type_place, bank_field, batch_field, number_field, segment_fields, segment_place, paid_date, paid_amount, fields_of}
 use Rattle.layout.specs.Records.{type_of}
@@ -66,13 +64,13 @@ module _ {s : Checker} {g : Fields} (t : WellMade s g) {j : ℕ} {f : Field} (at
 
   module _ (a : held_as f ≡ as_number) where
     -- of one that is always given there is one
-    is-given : nth j (filled g.which s g) ≡ Is (or_zero (nth j (filled g.which s g)))
+    is-given : nth j (filled g.which s g) ≡ Some (or_zero (nth j (filled g.which s g)))
     is-given =
         let there = given_reads g.which s.dir (filled g.which s g) (full_text s g t.whole) t.fields j at.below in
         (rw at.is at there) a
 
     -- what the writer fills there
-    pub reads_at : (k : ℕ) → number_from (fills_in g.which s) j (nth j g) ≡ Is k → number_of (part f (bytes_of s g)) ≡ Is k
+    pub reads_at : (k : ℕ) → number_from (fills_in g.which s) j (nth j g) ≡ Some k → number_of (part f (bytes_of s g)) ≡ Some k
     reads_at k e = number-at {p = always} a ∙ (filled_numbers g.which s g t.whole j ∙ e)
 
 -- ---- a number that the caller gives, or not, and not the writer
@@ -94,8 +92,8 @@ module _ {s : Checker} {r : Record} {f : Field} (v : Fields) (t : WellMade s (of
   read_given {p} g = number-at t g.stands {p = p} g.number ∙ same_given g
 
   -- one that is always given was given
-  pub number_given : GivenAt r f → number_of (part f (bytes_of s (of_record r v))) ≡ Is (or_zero (nth (index_of r f) v))
-  number_given g = number-at t g.stands {p = always} g.number ∙ is-given t g.stands g.number ∙ ap (λ (m : Number). Is (or_zero m)) (same_given g)
+  pub number_given : GivenAt r f → number_of (part f (bytes_of s (of_record r v))) ≡ Some (or_zero (nth (index_of r f) v))
+  number_given g = number-at t g.stands {p = always} g.number ∙ is-given t g.stands g.number ∙ ap (λ (m : Option ℕ). Some (or_zero m)) (same_given g)
 
 -- when the bank paid a credit and how much, each for itself
 paid-date : GivenAs perhaps SegmentA paid_date

@@ -1,5 +1,5 @@
 -- The line that a refusal names. Assumes nothing.
-use Rattle.std.specs.Prelude.{◌≡◌, refl, Bool, true, false, ℕ, ◌+◌, ◌≤◌, ◌<◌, length, drop}
+use Rattle.std.specs.Prelude.{◌≡◌, refl, Bool, true, false, ℕ, ◌+◌, ◌≤◌, ◌<◌, length, drop, Err}
 use Rattle.std.proofs.Common.{◌∙◌, zero-le, suc-le-suc, arith}
 use mathlib.Core.List.{List, [], ◌∷◌}
 use Rattle.answer.specs.Rules.{Rule, no_line, refusal, refused_as, rules_on_line}
@@ -7,7 +7,6 @@ use Rattle.answer.proofs.laws.Order.{here}
 use Rattle.answer.proofs.laws.Only.{Only, none, more, past, join, broken_so}
 use Rattle.answer.specs.declared.LineNo.{LineNo}
 use Rattle.answer.specs.declared.Refusal.{Refusal}
-use Rattle.answer.specs.declared.Answer.TheVariants.{Refused}
 use Rattle.layout.specs.Records.{is_one_of}
 use Rattle.layout.specs.declared.Record.{Record}
 use Rattle.fields.specs.declared.Fields.{Fields}
@@ -57,7 +56,7 @@ pub data LineNamed (w : Writer) (c : Call) (r : Refusal) : Type 0 where
   on_a_line : held w.checker ≡ true
       → (line_of w.checker).0 ≤ r.line.0 → r.line.0 < (line_of w.checker).0 + length (records_of c) → LineNamed w c r
 
-pub refused_line : (w : Writer) (c : Call) (out : List ℕ) (r : Refusal) → answer_of w c out ≡ Refused r → LineNamed w c r
+pub refused_line : (w : Writer) (c : Call) (out : List ℕ) (r : Refusal) → answer_of w c out ≡ Err r → LineNamed w c r
 unfolding call_rules answer_of
 refused_line w c out r e = go (held s) refl
   where
@@ -80,4 +79,4 @@ refused_line w c out r e = go (held s) refl
         (join each (all_on low end (line_of s) first (last_rules c w out))))
         ((call_refused w c out r).0 e) in
         on_a_line q h.from h.before
-    go false q = let h : refused_as 51 0 ≡ Refused r = here 51 0 (held s) _ q ∙ e in on_no_line q (cc)
+    go false q = let h : refused_as 51 0 ≡ Err r = here 51 0 (held s) _ q ∙ e in on_no_line q (cc)

@@ -1,13 +1,11 @@
 -- A well made record reads what the checker counts; a right one keeps the checker's rules for its kind, within the limit. Assumes nothing.
-use Rattle.std.specs.Prelude.{◌≡◌, ℕ, List}
+use Rattle.std.specs.Prelude.{◌≡◌, ℕ, List, Option, Some}
 use Rattle.std.proofs.Math.Path.{refl}
 use Rattle.std.proofs.Common.{lit≤}
 use Rattle.answer.specs.Rules.{first_broken, AllKept}
 use Rattle.answer.proofs.laws.Order.{accepted_kept}
 use Rattle.digits.specs.Digits.{digit_byte}
 use Rattle.digits.specs.Numbers.{number_of}
-use Rattle.digits.specs.declared.spelling.Number.{Number}
-use Rattle.digits.specs.declared.spelling.Number.TheVariants.{Is}
 use Rattle.layout.specs.Field.{part}
 use Rattle.layout.specs.Records.{shape_of, type_of}
 use Rattle.layout.specs.Table.{bank_field, batch_field, batch_records, batch_sum, file_batches, file_records, fields_of}
@@ -33,13 +31,13 @@ use Rattle.writer.proofs.laws.Reads.{stands_at, at_bank, at_batch, at_number, re
 
 module _ {s : Checker} {g : Fields} (t : WellMade s g) where
   -- the number that is filled at an index
-  abbrev filled_at : ℕ → Number
+  abbrev filled_at : ℕ → Option ℕ
   filled_at j = number_from (fills_in g.which s) j (nth j g)
 
-  bank : filled_at (bank_index g.which) ≡ Is s.bank → number_of (part bank_field (bytes_of s g)) ≡ Is s.bank
+  bank : filled_at (bank_index g.which) ≡ Some s.bank → number_of (part bank_field (bytes_of s g)) ≡ Some s.bank
   bank e = reads_at t (at_bank g.which) refl s.bank e
 
-  batch : (k : ℕ) → filled_at (batch_index g.which) ≡ Is k → number_of (part batch_field (bytes_of s g)) ≡ Is k
+  batch : (k : ℕ) → filled_at (batch_index g.which) ≡ Some k → number_of (part batch_field (bytes_of s g)) ≡ Some k
   batch k e = reads_at t (at_batch g.which) refl k e
 
   detail_read : type_of g.which ≡ digit_byte 3 → fills_in g.which s ≡ detail_fills g.which s → AllRead (in_detail s) (bytes_of s g)

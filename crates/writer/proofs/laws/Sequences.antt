@@ -1,9 +1,8 @@
 -- Calls one after the other: the reader takes every line that they write, and counts what was put in. Assumes nothing.
-use Rattle.std.specs.Prelude.{◌≡◌, refl, true, List, ℕ, ◌<◌, ◌≤◌, ◌+◌, ◌*◌}
+use Rattle.std.specs.Prelude.{◌≡◌, refl, true, List, ℕ, ◌<◌, ◌≤◌, ◌+◌, ◌*◌, Err, Ok}
 use Rattle.std.proofs.Common.{sym, ap, ◌∙◌, arith, lt-ltb, le-leb, lit<}
 use Rattle.answer.specs.Limits.{file_cents}
-use Rattle.answer.specs.declared.Answer.{Answer}
-use Rattle.answer.specs.declared.Answer.TheVariants.{Accepted, Refused}
+use Rattle.answer.specs.Rules.{Answer}
 use Rattle.checker.specs.Totals.{none, add, payment_count, record_count}
 use Rattle.checker.specs.Machine.{start, most_details}
 use Rattle.files.specs.File.{check_file}
@@ -15,7 +14,6 @@ use Rattle.checker.proofs.laws.Reached.{reached_kept}
 use Rattle.files.proofs.laws.Runs.{lines_are}
 use Rattle.files.proofs.laws.Verdict.{through_reached, through_append, through_lines, accepted_file}
 use Rattle.layout.specs.declared.shapes.Phase.TheVariants.{Ended}
-use Rattle.files.specs.declared.whole.Outcome.TheVariants as outcome
 use Rattle.checker.specs.declared.Checker.{Checker}
 use Rattle.writer.specs.Given.{Call, records_of}
 use Rattle.writer.specs.Refusals.{held, cents_so_far}
@@ -37,8 +35,8 @@ does : (w : Writer) (c : Call) (out : List ℕ) → AllWhole (records_of c) → 
 does w c out h = go (answer_of w c out) refl
   where
     go : (a : Answer) → answer_of w c out ≡ a → Does w c a
-    go Accepted e = record { through = call_through w c out h e; counts = call_counted w c out h e; cents = call_cents w c out h e }
-    go (Refused r) e = record { through = here; counts = sym (add_none (counted w.checker)); cents = λ l. l }
+    go (Ok tt) e = record { through = call_through w c out h e; counts = call_counted w c out h e; cents = call_cents w c out h e }
+    go (Err r) e = record { through = here; counts = sym (add_none (counted w.checker)); cents = λ l. l }
 
 -- ---- calls one after the other
 
@@ -94,7 +92,7 @@ module _ (ls : List Lent) (h : WholeCalls ls) where
       sym (add_none m.closed) ∙ ap (add m.closed) (sym (ended_none (reached_kept checker_reached) e)) ∙ put-in
 
   -- a file that is closed is accepted, with the totals of what was put in
-  pub file_accepted : (left new_writer ls).checker.phase ≡ Ended → check_file (file_of ls) ≡ outcome.Accepted (put_in new_writer ls)
+  pub file_accepted : (left new_writer ls).checker.phase ≡ Ended → check_file (file_of ls) ≡ Ok (put_in new_writer ls)
   file_accepted e =
       let m = (left new_writer ls).checker in
       let lines = (lines_are (file_of ls) (written new_writer ls)).1 (through_lines file_through, refl) in

@@ -1,7 +1,6 @@
 -- A call that is given fields of another record than it writes is refused. Assumes nothing.
-use Rattle.std.specs.Prelude.{◌≡◌, refl, Bool, true, false, List, ℕ}
+use Rattle.std.specs.Prelude.{◌≡◌, refl, Bool, true, false, List, ℕ, Ok}
 use Rattle.std.proofs.Common.{◌∙◌}
-use Rattle.answer.specs.declared.Answer.TheVariants.{Accepted}
 use Rattle.layout.specs.Table.{fields_of}
 use Rattle.layout.specs.Names.{before, index_of}
 use Rattle.layout.specs.declared.Record.{Record}
@@ -29,8 +28,8 @@ pub whole_taken : (r : Record) {v : Fields} → Whole v → Whole (taken_as r v)
 whole_taken r {v} h = go (is_of r v)
   where
     go : (b : Bool) → Whole (of_record r (unless_spoiled b r v))
-    go true = record { numbers = h.numbers; given = h.given; text = h.text }
-    go false = record { numbers = refl; given = refl; text = refl }
+    go true = record { numbers = h.numbers; text = h.text }
+    go false = record { numbers = refl; text = refl }
 
 -- the writer fills none of what refuses spoiled fields
 still_ruined : (r : Record) (s : Checker) (v : Fields) → Ruined v → Ruined (filled r s v)
@@ -59,7 +58,7 @@ pub data OfAnother : Call → Type 0 where
   no_file_trailer : {v : Fields} → is_of FileTrailer v ≡ false → OfAnother (close_file v)
 
 -- are never accepted
-pub another_refused : {A : Type 0} (w : Writer) (c : Call) (out : List ℕ) → AllWhole (records_of c) → OfAnother c → answer_of w c out ≡ Accepted → A
+pub another_refused : {A : Type 0} (w : Writer) (c : Call) (out : List ℕ) → AllWhole (records_of c) → OfAnother c → answer_of w c out ≡ Ok tt → A
 another_refused {A} w c out whole other e = go other (rights (expected_in c s) s whole (kept w c out e).records)
   where
     s : Checker

@@ -1,9 +1,8 @@
 -- The checker takes the lines of an accepted call. Assumes nothing.
-use Rattle.std.specs.Prelude.{◌≡◌, refl, true, List, drop, ℕ, suc}
+use Rattle.std.specs.Prelude.{◌≡◌, refl, true, List, drop, ℕ, suc, Ok}
 use Rattle.std.proofs.Common.{sym, ap, subst, ◌∙◌}
 use borrow.Author.Tests.{leb-true}
 use Rattle.answer.specs.Rules.{AllKept}
-use Rattle.answer.specs.declared.Answer.TheVariants.{Accepted}
 use Rattle.layout.specs.Records.{is_one_of}
 use Rattle.layout.specs.declared.Record.{Record}
 use Rattle.layout.specs.declared.Record.TheVariants.{FileHeader, BatchHeader, BatchTrailer, FileTrailer}
@@ -79,6 +78,6 @@ records_through w (pay p) out k rs = payment_through 0 refl (before (pay_may w.c
 records_through w (close_batch v) out k (more t none) = takes_on (taken t (trailer_may w.checker k.is_held v k.first)) here
 records_through w (close_file v) out k (more t none) = takes_on (taken t (end_may w.checker k.is_held v k.first)) here
 
-pub call_through : (w : Writer) (c : Call) (out : List ℕ) → AllWhole (records_of c) → answer_of w c out ≡ Accepted
+pub call_through : (w : Writer) (c : Call) (out : List ℕ) → AllWhole (records_of c) → answer_of w c out ≡ Ok tt
     → Through w.checker (lines_for w.checker (records_of c)) (behind_all w.checker (records_of c))
 call_through w c out whole e = let k = kept w c out e in records_through w c out k (rights (expected_in c w.checker) w.checker whole k.records)

@@ -1,9 +1,9 @@
 -- What private steps leave, for their contracts. Assumes nothing.
-use Rattle.std.specs.Prelude.{◌≡◌, Bool, true, cond, List, [], ◌∷◌, ◌++◌, ℕ, ◌+◌, ◌≤◌, length, get_or, take, drop}
+use Rattle.std.specs.Prelude.{◌≡◌, Bool, true, cond, Result, IfOk, List, [], ◌∷◌, ◌++◌, ℕ, ◌+◌, ◌≤◌, length, get_or, take, drop, Ok, Err}
 use Rattle.answer.specs.Rules.{Rule, rules_on_line, refused_as, first_broken, and_then, on_line}
 use Rattle.answer.specs.Output.{room}
-use Rattle.answer.specs.declared.Answer.{Answer}
-use Rattle.answer.specs.declared.Answer.TheVariants.{Accepted}
+use Rattle.answer.specs.declared.Refusal.{Refusal}
+use Rattle.answer.specs.Rules.{Answer}
 use Rattle.layout.specs.Records.{is_one_of}
 use Rattle.layout.specs.Table.{segment_place}
 use Rattle.layout.specs.Record.{byte_rule}
@@ -44,12 +44,21 @@ pub record MayTry (expected : Bool) (r : Record) (s : Checker) : Type 0 where
   pub follows : expected ≡ true → Follows s.dir s.batch s.phase r
   pub limit : expected ≡ true → Limit r s
 
--- a record that was tried: its answer; accepted, the state behind it; the record from its fields with what the writer fills
-pub record Tries (expected : Bool) (s : Checker) (g : Fields) (t : Tried) : Type 0 where
-  pub answered : t.answer ≡ first_broken (given_on_line expected s g)
-  pub moved : t.answer ≡ Accepted → t.checker ≡ next_by s g
-  pub right : t.answer ≡ Accepted → t.made.answer ≡ Accepted
+-- the answer of a call that gives a value where it accepts
+abbrev pub answer_in : {A : Type 0} → Result A Refusal → Answer
+answer_in (Ok x) = Ok tt
+answer_in (Err r) = Err r
+
+-- a record that was accepted: the state behind it; the record from its fields with what the writer fills, which is right
+pub record Makes (s : Checker) (g : Fields) (t : Tried) : Type 0 where
+  pub moved : t.checker ≡ next_by s g
+  pub right : t.made.answer ≡ Ok tt
   pub made : t.made ≡ made_of g.which s.dir (filled g.which s g)
+
+-- a record that was tried: its answer, and what is behind it
+pub record Tries (expected : Bool) (s : Checker) (g : Fields) (r : Result Tried Refusal) : Type 0 where
+  pub answered : answer_in r ≡ first_broken (given_on_line expected s g)
+  pub makes : IfOk r (Makes s g)
 
 -- the line of a record that is made
 abbrev pub line_with : Made → List ℕ
@@ -63,7 +72,7 @@ lines_with (m ∷ ms) = line_with m ∷ lines_with ms
 -- all of them are right
 pub data AllRight : List Made → Type 0 where
   none_made : AllRight []
-  one_more : {m : Made} {ms : List Made} → m.answer ≡ Accepted → AllRight ms → AllRight (m ∷ ms)
+  one_more : {m : Made} {ms : List Made} → m.answer ≡ Ok tt → AllRight ms → AllRight (m ∷ ms)
 
 -- the record of a payment at a position, from 0 on
 abbrev pub nth_in : ℕ → Payment → Fields
@@ -73,13 +82,22 @@ nth_in k p = get_or (first_in p ∷ p.second ∷ p.third ∷ []) k p.third
 abbrev pub expected_at : ℕ → Direction → Batch → Record → Bool
 expected_at k d b r = is_one_of r (expected_now (drop k (positions d (payment b))))
 
--- a payment's records that were tried; accepted, what is behind them all
-pub record TriesPayment (s : Checker) (p : Payment) (t : TriedPayment) : Type 0 where
-  pub answered : t.answer ≡ first_broken (all_given (expected_in_payment s) s (records_in p))
-  pub moved : t.answer ≡ Accepted → t.checker ≡ behind_all s (records_in p)
-  pub right : t.answer ≡ Accepted → AllRight (take (length (records_in p)) t.made)
-  pub made : t.answer ≡ Accepted → lines_with (take (length (records_in p)) t.made) ≡ lines_for s (records_in p)
+-- a payment's records that were accepted: what is behind them all
+pub record MakesPayment (s : Checker) (p : Payment) (t : TriedPayment) : Type 0 where
+  pub moved : t.checker ≡ behind_all s (records_in p)
+  pub right : AllRight (take (length (records_in p)) t.made)
+  pub made : lines_with (take (length (records_in p)) t.made) ≡ lines_for s (records_in p)
   pub places : length t.made ≡ most_details
+
+-- a payment's records that were tried: their answer, and what is behind them
+pub record TriesPayment (s : Checker) (p : Payment) (r : Result TriedPayment Refusal) : Type 0 where
+  pub answered : answer_in r ≡ first_broken (all_given (expected_in_payment s) s (records_in p))
+  pub makes : IfOk r (MakesPayment s p)
+
+-- what a call of the writer w hands back: the state that it reached, or where it is refused w
+abbrev pub handed_back : Writer → Result Writer Refusal → Written
+handed_back w (Ok behind) = record { state = behind; answer = Ok tt }
+handed_back w (Err r) = record { state = w; answer = Err r }
 
 -- a call's records, behind its turn
 pub record WroteIn (turn : Answer) (rules : List Rule) (w : Writer) (gs : List Fields) (out after : List ℕ) (r : Written) : Type 0 where

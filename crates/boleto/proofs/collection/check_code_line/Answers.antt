@@ -1,20 +1,19 @@
 -- `boleto::collection::check_code_line` meets its contract. Assumes nothing.
-use mathlib.Core.Path.{sym, ◌∙◌}
-use Rattle.answer.proofs.laws.Order.{gone_on, stopped}
+use Rattle.std.proofs.Common.{sym, ◌∙◌}
+use Rattle.answer.proofs.laws.Leaving.{leaves, goes_on}
 use Rattle.boleto.specs.Collection.{code_line_digits}
 use Rattle.boleto.specs.CollectionRules.{code_line_rules}
 use Rattle.boleto.proofs.laws.CollectionAccepted.{code_head_long}
 use Rattle.boleto.proofs.collection.check_code_line.Goals as goal
 
+pub returns-in_err-check_head : goal.returns-in_err-check_head
+unfolding code_line_rules
+returns-in_err-check_head c =
+    leaves _ _ c.check_head.ensures c.in_err-check_head.was c.from_residual.ensures
+
 pub check_blocks-requires : goal.check_blocks-requires
-check_blocks-requires c = code_head_long code_line_digits _ (sym c.check_head-head.ensures ∙ c.in-Accepted.is)
+check_blocks-requires c = code_head_long code_line_digits _ (sym c.check_head.ensures ∙ c.in_ok-check_head.was)
 
-pub returns-in-Accepted : goal.returns-in-Accepted
+pub returns : goal.returns
 unfolding code_line_rules
-returns-in-Accepted c = c.check_blocks.ensures ∙ gone_on _ _ (sym c.check_head-head.ensures ∙ c.in-Accepted.is)
-
-pub returns-in-Refused : goal.returns-in-Refused
-unfolding code_line_rules
-returns-in-Refused c =
-    let e = c.in-Refused.is in
-    e ∙ stopped _ _ _ (sym c.check_head-head.ensures ∙ e)
+returns c = goes_on _ _ c.check_head.ensures c.in_ok-check_head.was c.check_blocks.ensures

@@ -3,19 +3,18 @@ use mathlib.Core.Path.{◌≡◌, sym, ◌∙◌}
 use mathlib.Core.Bool.{true}
 use Prim.Native.Nat.{◌+◌, ◌-◌, ◌^◌, ◌<◌}
 use native.Mathlib.Omega.{arith}
-use borrow.Author.Tests.{not-true, not-false}
 use Rattle.calendar.specs.Calendar.{first_year, exists}
 use Rattle.calendar.specs.Due.{day_number}
 use Rattle.calendar.proofs.laws.Days.{in_year, years_closed}
 use Rattle.calendar.proofs.laws.Existing.{day_in_month}
 use Rattle.calendar.proofs.Date.day_number.Goals as goal
 
-exists-here : (c : goal.Else-not-exists) → exists c.args.self ≡ true
-exists-here c = sym c.exists.ensures ∙ not-false _ c.if-not-exists.false-raw
+exists-here : (c : goal.Then-exists) → exists c.args.self ≡ true
+exists-here c = sym c.exists.ensures ∙ c.if-exists.true
 
-pub returns-then-not-exists : goal.returns-then-not-exists
+pub returns-else-exists : goal.returns-else-exists
 unfolding day_number
-returns-then-not-exists c = rw (sym c.exists.ensures ∙ not-true _ c.if-not-exists.true-raw)
+returns-else-exists c = rw (sym c.exists.ensures ∙ c.if-exists.false)
 
 pub days_before_year-requires : goal.days_before_year-requires
 days_before_year-requires c = (day_in_month _ (exists-here c)).0.year
@@ -30,12 +29,12 @@ sum_fits c =
     let d = day_in_month s (exists-here c.before.before) in
     omega (arith, in_year s.year (s.month - 1) (omega arith), years_closed (s.year - first_year))
 
-pub returns : goal.returns
+pub returns-then-exists : goal.returns-then-exists
 unfolding day_number
-returns c = rw (exists-here c.before.before.before, c.days_before_year.ensures, c.days_before_month.ensures)
+returns-then-exists c = rw (exists-here c.before.before.before, c.days_before_year.ensures, c.days_before_month.ensures)
 
 pub overflow_add-result : goal.overflow_add-result
 overflow_add-result c = omega (arith, sum_fits c)
 
-pub overflow_add-result-2 : goal.overflow_add-result-2
-overflow_add-result-2 c = omega (arith, sum_fits c.before)
+pub overflow_add-result-then-exists : goal.overflow_add-result-then-exists
+overflow_add-result-then-exists c = omega (arith, sum_fits c.before)

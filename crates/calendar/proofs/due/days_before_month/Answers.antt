@@ -2,19 +2,14 @@
 use mathlib.Core.Path.{sym}
 use Prim.Native.Nat.{◌-◌}
 use native.Mathlib.Omega.{arith}
-use borrow.Author.Tests.{lt-ltb, le-ltb}
+use borrow.Author.Tests.{le-ltb}
 use Rattle.calendar.proofs.laws.Days.{months_closed, february_short}
 use Rattle.calendar.proofs.due.days_before_month.Goals as goal
-
-pub returns-then-before-lt-FEBRUARY : goal.returns-then-before-lt-FEBRUARY
-returns-then-before-lt-FEBRUARY c =
-    let a = c.args in
-    sym (rw (lt-ltb (a.month - 1) 2 c.if-before-lt-FEBRUARY.true) at (months_closed a.year (a.month - 1) (omega arith)))
 
 pub overflow_sub-result : goal.overflow_sub-result
 overflow_sub-result c = omega (arith, c.february_days.ensures, february_short c.args.year)
 
-pub returns : goal.returns
-returns c =
+pub returns-else-before-lt-FEBRUARY : goal.returns-else-before-lt-FEBRUARY
+returns-else-before-lt-FEBRUARY c =
     let a = c.args in
     rw c.february_days.ensures (sym (rw (le-ltb (a.month - 1) 2 (omega arith)) at (months_closed a.year (a.month - 1) (omega arith))))

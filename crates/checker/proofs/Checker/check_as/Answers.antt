@@ -1,18 +1,18 @@
 -- `checker::Checker::check_as` meets its contract. Assumes nothing.
-use mathlib.Core.Path.{sym, ap, ◌∙◌}
+use mathlib.Core.Path.{ap, ◌∙◌}
 use Rattle.answer.specs.Rules.{first_broken}
-use Rattle.answer.proofs.laws.Order.{gone_on, stopped}
+use Rattle.answer.proofs.laws.Leaving.{leaves, goes_on}
 use Rattle.layout.specs.declared.shapes.Shape.{Shape}
 use Rattle.checker.specs.Line.{house_by, rules_of_type, rules_as}
 use Rattle.checker.proofs.Checker.check_as.Goals as goal
 
-pub returns-in-Accepted : goal.returns-in-Accepted
+pub returns-in_err-check_type : goal.returns-in_err-check_type
 unfolding rules_as
-returns-in-Accepted c =
-    c.check_house.ensures
-    ∙ ap (λ (x : Shape). first_broken (house_by x.house c.args.rec.now)) c.requires.shape_value
-    ∙ gone_on (rules_of_type _ c.args.which c.args.self _) _ (sym c.check_type-own.ensures ∙ c.in-Accepted.is)
+returns-in_err-check_type c =
+    leaves (rules_of_type _ c.args.which c.args.self _) _ c.check_type.ensures c.in_err-check_type.was c.from_residual.ensures
 
-pub returns-in-Refused : goal.returns-in-Refused
+pub returns : goal.returns
 unfolding rules_as
-returns-in-Refused c = c.in-Refused.is ∙ stopped (rules_of_type _ c.args.which c.args.self _) _ _ (sym c.check_type-own.ensures ∙ c.in-Refused.is)
+returns c =
+    goes_on (rules_of_type _ c.args.which c.args.self _) _ c.check_type.ensures c.in_ok-check_type.was
+    (c.check_house.ensures ∙ ap (λ (x : Shape). first_broken (house_by x.house c.args.rec.now)) c.requires.shape_value)

@@ -7,7 +7,7 @@ use Rattle.checker.proofs.Checker.check_batch_header.Goals as goal
 pub returns : goal.returns
 unfolding rules_of_type
 returns c =
-    ahead c.and_then-3.ensures _ _ (rw c.batches-ordinal.ensures at c.test-limit.ensures)
-    (ahead c.and_then-2.ensures _ _ c.check_bank-bank.ensures
-    (ahead c.and_then.ensures _ _ (rw c.batches-ordinal.ensures at c.check_batch-batch.ensures)
-    (batch-header _ _ c.requires.rec_len c.check_fields-fields.ensures)))
+    ahead c.and-3.ensures _ _ (rw c.batches-ordinal.ensures at c.test-limit.ensures)
+    (ahead c.and-2.ensures _ _ c.check_bank-bank.ensures
+    (ahead c.and.ensures _ _ (rw c.batches-ordinal.ensures at c.check_batch-batch.ensures)
+    (batch-header _ _ c.told-rec c.check_fields-fields.ensures)))

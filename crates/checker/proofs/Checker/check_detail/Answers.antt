@@ -5,10 +5,14 @@ use native.Mathlib.Omega.{arith}
 use Rattle.answer.specs.Rules.{rule, first_broken}
 use Rattle.answer.proofs.laws.Order.{ahead, joined}
 use Rattle.checker.proofs.laws.Bounds.{payments_fit}
-use Rattle.checker.proofs.Fields.{body, segment_rule, behind_head, at_head}
+use Rattle.answer.proofs.laws.Leaving.{leaves, goes_on}
+use Rattle.layout.specs.Table.{segment_place}
+use Rattle.layout.specs.Record.{rules_of}
+use Rattle.checker.specs.Line.{behind}
+use Rattle.checker.proofs.Fields.{body, segment_rule, head_joined}
 use mathlib.Core.List.{List}
 use Prim.Native.Nat.{ℕ}
-use Rattle.answer.specs.declared.Answer.{Answer}
+use Rattle.answer.specs.Rules.{Answer}
 use Rattle.layout.specs.declared.Record.{Record}
 use lib.Dec.{eqb}
 use lib.ListN.{length, get_or}
@@ -32,26 +36,26 @@ module _ (r : Record) {shape : Shape} (row : shape ≡ shape_of r) where
 pub overflow_add-few : goal.overflow_add-few
 overflow_add-few c = let b = c.requires.bounded in let p = c.payments_by.ensures.1 in omega (arith, c.payments.ensures)
 
-pub returns-in-Accepted : goal.returns-in-Accepted
-returns-in-Accepted c =
+pub returns : goal.returns
+returns c =
     let row = c.requires.shape_value.0 in
     let is = is_detail c.args.which row c.requires.shape_value.1 in
     let many = many_is c.args.which row c.payments_by.ensures.0 in
     let bound = c.requires.bounded in
     let limit = rw (c.payments.ensures ∙ payments_fit bound, many) at c.test-limit.ensures in
-    let letter = letter_is c.args.which row c.args.rec.now c.test-segment.ensures ∙ segment_rule _ _ c.requires.rec_len c.args.which is in
-    let number = ahead c.and_then-2.ensures _ _ (rw c.records.ensures at c.check_records-number.ensures) (joined c.and_then.ensures _ _ letter limit) in
-    let head = ahead c.and_then-head.ensures _ _ c.check_bank-bank.ensures (ahead c.and_then-3.ensures _ _ (rw c.batches.ensures at c.check_batch-batch.ensures) number) in
-    behind_head c.args.which c.args.self _ head c.in-Accepted.is (body _ _ c.requires.rec_len c.args.which is c.check_fields.ensures)
+    let letter = letter_is c.args.which row c.args.rec.now c.test-segment.ensures ∙ segment_rule _ _ c.told-rec c.args.which is in
+    let number = ahead c.and-2.ensures _ _ (rw c.records.ensures at c.check_records-number.ensures) (joined c.and.ensures _ _ letter limit) in
+    let head = ahead c.and-4.ensures _ _ c.check_bank-bank.ensures (ahead c.and-3.ensures _ _ (rw c.batches.ensures at c.check_batch-batch.ensures) number) in
+    goes_on _ _ head c.in_ok-and.was (body _ _ c.told-rec c.args.which is c.check_fields.ensures) ∙ head_joined c.args.which c.args.self _
 
-pub returns-in-Refused : goal.returns-in-Refused
-returns-in-Refused c =
+pub returns-in_err-and : goal.returns-in_err-and
+returns-in_err-and c =
     let row = c.requires.shape_value.0 in
     let is = is_detail c.args.which row c.requires.shape_value.1 in
     let many = many_is c.args.which row c.payments_by.ensures.0 in
     let bound = c.requires.bounded in
     let limit = rw (c.payments.ensures ∙ payments_fit bound, many) at c.test-limit.ensures in
-    let letter = letter_is c.args.which row c.args.rec.now c.test-segment.ensures ∙ segment_rule _ _ c.requires.rec_len c.args.which is in
-    let number = ahead c.and_then-2.ensures _ _ (rw c.records.ensures at c.check_records-number.ensures) (joined c.and_then.ensures _ _ letter limit) in
-    let head = ahead c.and_then-head.ensures _ _ c.check_bank-bank.ensures (ahead c.and_then-3.ensures _ _ (rw c.batches.ensures at c.check_batch-batch.ensures) number) in
-    at_head c.args.which c.args.self _ head c.in-Refused.is
+    let letter = letter_is c.args.which row c.args.rec.now c.test-segment.ensures ∙ segment_rule _ _ c.told-rec c.args.which is in
+    let number = ahead c.and-2.ensures _ _ (rw c.records.ensures at c.check_records-number.ensures) (joined c.and.ensures _ _ letter limit) in
+    let head = ahead c.and-4.ensures _ _ c.check_bank-bank.ensures (ahead c.and-3.ensures _ _ (rw c.batches.ensures at c.check_batch-batch.ensures) number) in
+    leaves _ (rules_of (behind segment_place c.args.which) c.args.self.dir c.args.rec.now) head c.in_err-and.was c.from_residual.ensures ∙ head_joined c.args.which c.args.self _

@@ -8,5 +8,5 @@ use Rattle.checker.proofs.Checker.check_file_header.Goals as goal
 pub returns : goal.returns
 unfolding rules_of_type
 returns c =
-    ahead c.and_then-2.ensures _ _ (c.test-bank.ensures ∙ rw c.all_digits-spelled.ensures)
-    (ahead c.and_then.ensures _ _ c.check_batch-batch.ensures (file-header _ _ c.requires c.check_fields-fields.ensures))
+    ahead c.and-2.ensures _ _ (c.test-bank.ensures ∙ rw c.all_digits-spelled.ensures)
+    (ahead c.and.ensures _ _ c.check_batch-batch.ensures (file-header _ _ c.told-rec c.check_fields-fields.ensures))

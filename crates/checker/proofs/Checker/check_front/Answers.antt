@@ -1,18 +1,48 @@
 -- `checker::Checker::check_front` meets its contract. Assumes nothing.
-use mathlib.Core.Path.{◌∙◌}
-use borrow.Author.Tests.{eq-eqb, ne_eqb}
-use Rattle.answer.proofs.laws.Order.{here, past, ahead}
+use Rattle.std.proofs.Common.{◌≢◌, ◌∙◌, length, arith, eq-eqb, ne_eqb, sym}
+use Rattle.answer.proofs.laws.Order.{here, past}
+use Rattle.answer.proofs.laws.Leaving.{goes_on}
+use Rattle.checker.specs.Line.{line_bytes}
+use Rattle.checker.proofs.Front.{turns_back}
 use Rattle.checker.proofs.Checker.check_front.Goals as goal
+use Rattle.checker.proofs.Checker.check_front.Goals.{in_default-via-in-Some+else-line-eq-LINE_BYTES, in_default-via-in_default}
 
-pub returns-then-is_ended : goal.returns-then-is_ended
-returns-then-is_ended c = c.refused.ensures ∙ here _ _ _ _ (rw (← c.is_ended.ensures, c.if-is_ended.true))
+pub returns-in_err-test-clause-answer : goal.returns-in_err-test-clause-answer
+returns-in_err-test-clause-answer c = turns_back _ _ (rw c.is_ended.ensures at c.test.ensures) _ c.in_err-test.was c.from_residual.ensures
 
-pub returns-then-line-ne-LINE_BYTES : goal.returns-then-line-ne-LINE_BYTES
-returns-then-line-ne-LINE_BYTES c = past _ _ _ _ _ (rw (← c.is_ended.ensures, c.if-is_ended.false)) (c.refused-then-line-ne-LINE_BYTES.ensures ∙ here _ _ _ _ (ne_eqb _ _ c.if-line-ne-LINE_BYTES.true))
+pub returns-in_default-clause-answer : goal.returns-in_default-clause-answer
+returns-in_default-clause-answer c =
+    let other : length c.args.line.now ≢ line_bytes = elim c.in_default.branch [
+      | in_default-via-in-Some+else-line-eq-LINE_BYTES w ↦ w.if-line-eq-LINE_BYTES.false
+      | in_default-via-in_default w ↦ let short = rw w.in_default.is at c.first_chunk.ensures.cases in omega arith
+    ] in
+    goes_on _ _ (rw c.is_ended.ensures at c.test.ensures) c.in_ok-test.was (rw c.refusal.ensures (here _ _ _ _ (ne_eqb _ _ other)))
 
-pub returns : goal.returns
-returns c =
-    past _ _ _ _ _ (rw (← c.is_ended.ensures, c.if-is_ended.false))
-    (past _ _ _ _ _ (eq-eqb _ _ c.if-line-ne-LINE_BYTES.false)
-    (ahead c.and_then-2.ensures _ _ c.check_bytes-clean.ensures
-    (ahead c.and_then.ensures _ _ c.test-cr.ensures c.test-lf.ensures)))
+pub returns-in_err-check_bytes-clause-answer : goal.returns-in_err-check_bytes-clause-answer
+returns-in_err-check_bytes-clause-answer c =
+    goes_on _ _ (rw c.is_ended.ensures at c.test.ensures) c.in_ok-test.was
+    (past _ _ _ _ _ (eq-eqb _ _ c.if-line-eq-LINE_BYTES.true)
+    (turns_back _ _ (rw c.in-Some.ensures.cases.same at c.check_bytes.ensures) _ c.in_err-check_bytes.was c.from_residual-in_err-check_bytes.ensures))
+
+pub returns-in_err-test-2-clause-answer : goal.returns-in_err-test-2-clause-answer
+returns-in_err-test-2-clause-answer c =
+    goes_on _ _ (rw c.is_ended.ensures at c.test.ensures) c.in_ok-test.was
+    (past _ _ _ _ _ (eq-eqb _ _ c.if-line-eq-LINE_BYTES.true)
+    (goes_on _ _ (rw c.in-Some.ensures.cases.same at c.check_bytes.ensures) c.in_ok-check_bytes.was
+    (turns_back _ _ c.test-2.ensures _ c.in_err-test-2.was c.from_residual-in_err-test-2.ensures)))
+
+pub returns-in_err-test-3-clause-answer : goal.returns-in_err-test-3-clause-answer
+returns-in_err-test-3-clause-answer c =
+    goes_on _ _ (rw c.is_ended.ensures at c.test.ensures) c.in_ok-test.was
+    (past _ _ _ _ _ (eq-eqb _ _ c.if-line-eq-LINE_BYTES.true)
+    (goes_on _ _ (rw c.in-Some.ensures.cases.same at c.check_bytes.ensures) c.in_ok-check_bytes.was
+    (goes_on _ _ c.test-2.ensures c.in_ok-test-2.was
+    (turns_back _ _ c.test-3.ensures _ c.in_err-test-3.was c.from_residual-in_err-test-3.ensures))))
+
+pub returns-clause-answer : goal.returns-clause-answer
+returns-clause-answer c =
+    goes_on _ _ (rw c.is_ended.ensures at c.test.ensures) c.in_ok-test.was
+    (past _ _ _ _ _ (eq-eqb _ _ c.if-line-eq-LINE_BYTES.true)
+    (goes_on _ _ (rw c.in-Some.ensures.cases.same at c.check_bytes.ensures) c.in_ok-check_bytes.was
+    (goes_on _ _ c.test-2.ensures c.in_ok-test-2.was
+    (sym c.in_ok-test-3.was ∙ c.test-3.ensures))))

@@ -2,10 +2,10 @@
 use Rattle.checker.proofs.Checker.closed_batch.Goals as goal
 
 pub plus-requires : goal.plus-requires
-plus-requires c = rw c.counted.ensures c.requires.room.in-batch
+plus-requires c = rw c.counted.ensures c.requires.in-batch
 
-pub plus-all-requires : goal.plus-all-requires
-plus-all-requires c = rw (c.plus.ensures, c.counted.ensures) c.requires.room.at_end
+pub plus-requires-2 : goal.plus-requires-2
+plus-requires-2 c = rw (c.plus.ensures, c.counted.ensures) c.requires.at_end
 
 pub returns : goal.returns
-returns c = rw (c.behind.ensures, c.none.ensures, c.plus-all.ensures, c.plus.ensures, c.counted.ensures)
+returns c = rw (c.none.ensures, c.plus-2.ensures, c.plus.ensures, c.counted.ensures)

@@ -2,4 +2,4 @@
 use Rattle.checker.proofs.boletos.cents_fit.Goals as goal
 
 pub returns : goal.returns
-returns c = rw (c.equal-2.ensures, c.equal.ensures, c.requires.nominal_value, c.value.ensures)
+returns c = rw (c.eq-2.ensures, c.eq.ensures, c.requires, c.value.ensures)

@@ -7,7 +7,7 @@ use Rattle.checker.proofs.boletos.check_boleto.Goals as goal
 pub returns : goal.returns
 unfolding boleto_rules
 returns c =
-    ahead c.and_then-3.ensures _ _ (c.test-check.ensures ∙ rw c.is_sealed-general.ensures)
-    (ahead c.and_then-2.ensures _ _ (c.test-due.ensures ∙ rw c.due_fits.ensures)
-    (ahead c.and_then.ensures _ _ (c.test-cents.ensures ∙ rw c.cents_fit.ensures)
+    ahead c.and-3.ensures _ _ (c.test-check.ensures ∙ rw c.is_sealed-general.ensures)
+    (ahead c.and-2.ensures _ _ (c.test-due.ensures ∙ rw c.due_fits.ensures)
+    (ahead c.and.ensures _ _ (c.test-cents.ensures ∙ rw c.cents_fit.ensures)
     (c.test-amount.ensures ∙ rw c.amount_fits-paid.ensures)))

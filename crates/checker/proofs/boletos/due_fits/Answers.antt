@@ -2,4 +2,4 @@
 use Rattle.checker.proofs.boletos.due_fits.Goals as goal
 
 pub returns : goal.returns
-returns c = rw (c.fits_factor.ensures, c.of-due.ensures, c.value.ensures, c.value-factor.ensures)
+returns c = rw (c.fits_factor.ensures, c.from-due.ensures, c.value.ensures, c.value-factor.ensures)

@@ -7,6 +7,6 @@ use Rattle.checker.proofs.collections.check_collection.Goals as goal
 pub returns : goal.returns
 unfolding collection_rules
 returns c =
-    ahead c.and_then-2.ensures _ _ (c.test-first.ensures ∙ rw c.product_fits-product.ensures)
-    (ahead c.and_then.ensures _ _ (c.test-second.ensures ∙ rw c.identifier_fits-identifier.ensures)
+    ahead c.and-2.ensures _ _ (c.test-first.ensures ∙ rw c.product_fits-product.ensures)
+    (ahead c.and.ensures _ _ (c.test-second.ensures ∙ rw c.identifier_fits-identifier.ensures)
     (c.test-third.ensures ∙ rw c.is_sealed-sealed.ensures))

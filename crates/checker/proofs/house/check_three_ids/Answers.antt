@@ -4,5 +4,5 @@ use Rattle.checker.proofs.house.check_three_ids.Goals as goal
 
 pub returns : goal.returns
 returns c =
-    ahead c.and_then-2.ensures _ _ c.check_id-payer.ensures
-    (ahead c.and_then.ensures _ _ c.check_id-payee.ensures c.check_id-guarantor.ensures)
+    ahead c.and-2.ensures _ _ c.check_id-payer.ensures
+    (ahead c.and.ensures _ _ c.check_id-payee.ensures c.check_id-guarantor.ensures)

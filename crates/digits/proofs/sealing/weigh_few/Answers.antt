@@ -8,30 +8,30 @@ use Rattle.digits.proofs.laws.Sums.{weighed_drop}
 use Rattle.digits.proofs.Small.{counts_small}
 use Rattle.digits.proofs.sealing.weigh_few.Goals as goal
 
-pub loop-i-init : goal.loop-i-init
-loop-i-init c = (omega arith, omega arith, omega arith, omega arith)
+pub loop-b-init : goal.loop-b-init
+loop-b-init c = (omega arith, omega arith, omega arith)
 
 -- what the byte counts
 small : (c : goal.After-count) → c.count.result ≤ most_count
 small c =
-    rw c.count.ensures (counts_small c.args.m (c.loop-i.k - 1) c.value_of.result c.value_of.ensures.1)
+    rw c.count.ensures (counts_small c.args.m (c.loop-b.k - 1) c.value_of.result c.value_of.ensures.1)
 
-pub loop-i-preserved : goal.loop-i-preserved
-loop-i-preserved c =
+pub loop-b-preserved : goal.loop-b-preserved
+loop-b-preserved c =
     let a = c.args in
     let f = behind a.right (counts a.m) in
-    let k : c.loop-i.k - 1 ≡ length a.s.now - suc c.loop-i.i + a.right = omega arith in
-    let t = weighed_drop (value_of a.m) f a.s.now c.loop-i.i (omega arith) in
-    let d : c.count.result ≡ f (length a.s.now - suc c.loop-i.i) (value_of a.m (get_or a.s.now c.loop-i.i 0)) =
+    let k : c.loop-b.k - 1 ≡ length a.s.now - suc c.loop-b.b-index + a.right = omega arith in
+    let t = weighed_drop (value_of a.m) f a.s.now c.loop-b.b-index (omega arith) in
+    let d : c.count.result ≡ f (length a.s.now - suc c.loop-b.b-index) (value_of a.m (get_or a.s.now c.loop-b.b-index 0)) =
     rw (c.count.ensures, c.value_of.ensures.0, k) in
-    rw add-one (omega arith, omega arith, omega (arith, small c), omega (arith, t, d, c.loop-i.invariant.3))
+    rw add-one (omega arith, omega (arith, small c), omega (arith, t, d, c.loop-b.invariant.2))
 
 pub returns : goal.returns
 unfolding weighed
 returns c =
     let s = c.args.s.now in
-    let end : c.loop-i.i ≡ length s = omega arith in
-    omega (arith, rw (end, drop-length) at c.loop-i.invariant.3)
+    let end : c.loop-b.b-index ≡ length s = omega arith in
+    omega (arith, rw (end, drop-length) at c.loop-b.invariant.2)
 
 pub overflow_cast-sum : goal.overflow_cast-sum
 overflow_cast-sum c = omega (arith, small c)

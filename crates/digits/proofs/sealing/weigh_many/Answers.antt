@@ -1,33 +1,47 @@
--- `digits::sealing::weigh_many` meets its contract. The invariant: the sum is the remainder of the bytes from index i on, and k bytes stand to the right of the next. Assumes nothing.
-use Rattle.std.proofs.Common.{◌≡◌, ℕ, ◌%◌, sym, ap, ◌∙◌, arith}
-use native.Mathlib.Nat.{mod-mod, zero-mod}
+-- `digits::sealing::weigh_many` meets its contract. The invariant: the sum, a remainder, and that of the bytes from index i on leave what the whole sum leaves, and k bytes stand to the right of the last. Assumes nothing.
+use Rattle.std.proofs.Common.{◌≡◌, ℕ, suc, ◌+◌, ◌-◌, ◌%◌, length, get_or, drop, sym, ap, ◌∙◌, add-zero, add-one, arith}
+use native.Mathlib.Nat.{mod-mod, zero-mod, add-mod}
 use lib.Seq.{drop-length}
 use Rattle.digits.specs.Digits.{weighed}
 use Rattle.digits.specs.inner.Steps.{behind}
 use Rattle.digits.specs.Checks.{base, value_of, counts}
-use Rattle.digits.proofs.laws.Sums.{turn}
+use Rattle.digits.proofs.laws.Sums.{weighed_drop}
 use Rattle.digits.proofs.laws.Moduli.{base_pos}
 use Rattle.digits.proofs.Small.{counts_small, rest_small}
 use Rattle.digits.proofs.sealing.weigh_many.Goals as goal
 
-pub loop-i-init : goal.loop-i-init
-unfolding weighed
-loop-i-init c = (omega arith, omega arith, rw (drop-length c.args.s.now) (sym (zero-mod (base c.args.m))))
+pub loop-b-init : goal.loop-b-init
+loop-b-init c = (omega arith, sym (zero-mod (base c.args.m)), ap (λ (n : ℕ). n % base c.args.m) (omega arith))
 
 pub overflow_add-sum : goal.overflow_add-sum
 overflow_add-sum c =
     let m = c.args.m in
-    omega (arith, rest_small m _ _ c.loop-i.invariant.2, counts_small m c.loop-i.k c.value_of.result c.value_of.ensures.1)
+    omega (arith, rest_small m _ _ c.loop-b.invariant.1, counts_small m (c.loop-b.k - 1) c.value_of.result c.value_of.ensures.1)
 
 pub nonzero_rem-sum : goal.nonzero_rem-sum
 nonzero_rem-sum c = omega (arith, base_pos c.args.m)
 
-pub loop-i-preserved : goal.loop-i-preserved
-loop-i-preserved c =
+pub loop-b-preserved : goal.loop-b-preserved
+loop-b-preserved c =
     let a = c.args in
+    let l = c.loop-b in
     let M = base a.m in
-    let t = turn (value_of a.m) (behind a.right (counts a.m)) M a.s.now c.loop-i.i c.loop-i.sum (omega arith) (omega arith) (ap (λ (n : ℕ). n % M) c.loop-i.invariant.2 ∙ mod-mod _ _) in
-    (omega arith, omega arith, rw (c.base_of.ensures, c.count.ensures, c.value_of.ensures.0, c.loop-i.invariant.1) t)
+    let f = behind a.right (counts a.m) in
+    let k : l.k - 1 ≡ length a.s.now - suc l.b-index + a.right = omega arith in
+    let t = weighed_drop (value_of a.m) f a.s.now l.b-index (omega arith) in
+    let d : c.count.result ≡ f (length a.s.now - suc l.b-index) (value_of a.m (get_or a.s.now l.b-index 0)) =
+    rw (c.count.ensures, c.value_of.ensures.0, k) in
+    let sum = l.sum + c.count.result in
+    let rest = weighed (value_of a.m) f (drop (suc l.b-index) a.s.now) in
+    rw (add-one, c.base_of.ensures) (
+      omega arith,
+      sym (mod-mod sum M),
+      add-mod (sum % M) rest M ∙ ap (λ (n : ℕ). (n + rest % M) % M) (mod-mod sum M) ∙ sym (add-mod sum rest M) ∙ ap (λ (n : ℕ). n % M) (omega (arith, t, d)) ∙ l.invariant.2,
+    )
 
 pub returns : goal.returns
-returns c = let l = c.loop-i in let z : l.i ≡ 0 = omega arith in rw z at l.invariant.2
+unfolding weighed
+returns c =
+    let l = c.loop-b in
+    let end : l.b-index ≡ length c.args.s.now = omega arith in
+    l.invariant.1 ∙ rw (end, drop-length, add-zero) at l.invariant.2

@@ -1,11 +1,9 @@
-use Rattle.std.proofs.Common.{◌≡◌, ◌+◌, ◌-◌, ◌%◌, ◌≤◌, length, drop}
+use Rattle.std.proofs.Common.{◌≡◌, ◌+◌, ◌-◌, ◌%◌, length, drop}
 use Rattle.digits.specs.Digits.{weighed}
 use Rattle.digits.specs.inner.Steps.{behind}
 use Rattle.digits.specs.Checks.{base, value_of, counts}
 use Rattle.digits.proofs.sealing.weigh_many.Given as goal
 
-abbrev pub invariant-loop-i : goal.invariant-loop-i
-invariant-loop-i l = (l.i ≤ length l.s) × (l.k ≡ length l.s - l.i + l.right) × (l.sum ≡ weighed (value_of l.m) (behind l.right (counts l.m)) (drop l.i l.s) % base l.m)
-
-abbrev pub decreases-loop-i : goal.decreases-loop-i
-decreases-loop-i l = l.i
+abbrev pub invariant-loop-b : goal.invariant-loop-b
+invariant-loop-b l =
+    (l.k ≡ length l.s - l.b-index + l.right) × (l.sum ≡ l.sum % base l.m) × ((l.sum + weighed (value_of l.m) (behind l.right (counts l.m)) (drop l.b-index l.s)) % base l.m ≡ weighed (value_of l.m) (behind l.right (counts l.m)) l.s % base l.m)

@@ -1,34 +1,33 @@
 -- `digits::spelling::spelled` meets its contract. The invariant: n, with as many zeros behind it as digits are left, and what these spell make the number. Assumes nothing.
-use Rattle.std.proofs.Common.{◌≡◌, length, sym, ◌∙◌, add-one, arith, rules}
+use Rattle.std.proofs.Common.{◌≡◌, length, sym, ◌∙◌, add-one, arith}
 use native.Mathlib.Nat.{sub_self}
 use lib.Seq.{drop-length}
 use Rattle.digits.specs.Digits.{weighed}
 use Rattle.digits.proofs.laws.Numerals.{number_turn, below_more, below_limit}
 use Rattle.digits.proofs.spelling.spelled.Goals as goal
 
-pub loop-i-init : goal.loop-i-init
-loop-i-init c = (search rules, omega arith, omega arith)
+pub loop-b-init : goal.loop-b-init
+loop-b-init c = (omega arith, omega arith)
 
 pub overflow_mul-n : goal.overflow_mul-n
-overflow_mul-n c = omega (arith, below_limit c.loop-i.i c.loop-i.n (omega arith) c.loop-i.invariant.1)
+overflow_mul-n c = omega (arith, below_limit c.loop-b.b-index c.loop-b.n (omega arith) c.loop-b.invariant.0)
 
 pub overflow_add-n : goal.overflow_add-n
 overflow_add-n c =
-    let l = c.loop-i in
-    omega (arith, below_limit l.i l.n (omega arith) l.invariant.1)
+    let l = c.loop-b in
+    omega (arith, below_limit l.b-index l.n (omega arith) l.invariant.0)
 
-pub loop-i-preserved : goal.loop-i-preserved
-loop-i-preserved c =
+pub loop-b-preserved : goal.loop-b-preserved
+loop-b-preserved c =
     let s = c.args.s.now in
     rw add-one (
-      omega arith,
-      below_more c.loop-i.i c.loop-i.n c.worth.result c.loop-i.invariant.1 c.worth.ensures.1,
-      rw c.worth.ensures.0 (sym (number_turn c.loop-i.n c.loop-i.i s (omega arith)) ∙ c.loop-i.invariant.2),
+      below_more c.loop-b.b-index c.loop-b.n c.worth.result c.loop-b.invariant.0 c.worth.ensures.1,
+      rw c.worth.ensures.0 (sym (number_turn c.loop-b.n c.loop-b.b-index s (omega arith)) ∙ c.loop-b.invariant.1),
     )
 
 pub returns : goal.returns
 unfolding weighed
 returns c =
     let s = c.args.s.now in
-    let end : c.loop-i.i ≡ length s = omega arith in
-    omega (arith, rw (end, drop-length, sub_self) at c.loop-i.invariant.2)
+    let end : c.loop-b.b-index ≡ length s = omega arith in
+    omega (arith, rw (end, drop-length, sub_self) at c.loop-b.invariant.1)

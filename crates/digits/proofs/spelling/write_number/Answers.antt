@@ -15,7 +15,7 @@ loop-i-preserved c =
 pub returns-then-left-ne0 : goal.returns-then-left-ne0
 returns-then-left-ne0 c =
     let l = c.loop-i in
-    c.fill_stars.ensures ∙ rw l.invariant.1 (too_wide _ _ l.left l.i c.loop-i-test.false l.invariant.3 c.if-left-ne0.true)
+    c.fill.ensures.after (search rules) ∙ rw l.invariant.1 (too_wide _ _ l.left l.i c.loop-i-test.false l.invariant.3 c.if-left-ne0.true)
 
 pub returns-else-left-ne0 : goal.returns-else-left-ne0
 returns-else-left-ne0 c =

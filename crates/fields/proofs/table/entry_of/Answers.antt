@@ -1,13 +1,10 @@
 -- `fields::table::entry_of` meets its contract: a record's fields stand one behind the other among all. Assumes nothing.
-use mathlib.Core.Path.{refl}
 use native.Mathlib.Omega.{arith}
-use Rattle.layout.specs.Table.{fields_of, fields_of_each, all}
 use Rattle.layout.proofs.laws.Columns.{first_is, past_is, in_table}
 use Rattle.fields.proofs.table.entry_of.Goals as goal
 
 pub field_at-requires : goal.field_at-requires
-unfolding all fields_of_each fields_of
-field_at-requires c = record { columns = record { froms = refl; tos = refl; kinds_of = refl }; f_lt_field_count = omega (arith, first_is c.args.which c.span_of-s.ensures, past_is c.args.which c.span_of-s.ensures, in_table c.args.which c.span_of-s.ensures) }
+field_at-requires c = omega (arith, first_is c.args.which c.span_of-s.ensures, past_is c.args.which c.span_of-s.ensures, in_table c.args.which c.span_of-s.ensures)
 
 pub returns : goal.returns
 returns c = rw (← (first_is _ c.span_of-s.ensures)) c.field_at.ensures

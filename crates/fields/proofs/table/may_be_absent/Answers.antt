@@ -1,17 +1,14 @@
 -- `fields::table::may_be_absent` meets its contract. Assumes nothing.
 use mathlib.Core.Path.{ap, ◌∙◌}
-use borrow.Author.Tests.{lt-ltb, le-ltb}
+use borrow.Author.Tests.{lt-ltb}
 use Rattle.layout.specs.Field.{Field}
 use Rattle.layout.specs.Kinds.{may_be_absent}
 use Rattle.layout.proofs.laws.Columns.{in_record}
 use Rattle.fields.specs.Values.{held_as}
 use Rattle.fields.proofs.table.may_be_absent.Goals as goal
 
-pub returns-then-count-field : goal.returns-then-count-field
-returns-then-count-field c = rw (le-ltb _ _ (rw c.count.ensures at c.if-count-field.true))
-
-pub returns : goal.returns
-returns c =
+pub returns-then-field-count : goal.returns-then-field-count
+returns-then-field-count c =
     let a = c.args in
-    let one = rw c.count.ensures at c.if-count-field.false in
-    rw (lt-ltb _ _ one) (c.may_be_absent.ensures ∙ ap (λ (f : Field). may_be_absent (held_as f)) (c.entry_of-e.ensures.is ∙ in_record a.which a.field one))
+    let one = rw c.count.ensures at c.if-field-count.true in
+    rw (lt-ltb _ _ one) (c.may_be_absent.ensures ∙ ap (λ (f : Field). may_be_absent (held_as f)) (c.entry_of.ensures.is ∙ in_record a.which a.field one))

@@ -1,7 +1,7 @@
 -- `fields::text::text_with` meets its contract. Assumes nothing.
 use mathlib.Core.Path.{ap, ◌∙◌}
 use native.Mathlib.Omega.{arith}
-use borrow.Author.Tests.{lt-ltb, le-ltb}
+use borrow.Author.Tests.{lt-ltb}
 use Rattle.layout.specs.inner.Lent.{kind_of}
 use Rattle.layout.specs.Field.{Field, field}
 use Rattle.layout.proofs.laws.Columns.{in_record}
@@ -18,6 +18,3 @@ returns-then-field-count c =
     let f = field e.result.from e.result.to (kind_of e.result.kind) in
     rw (lt-ltb _ _ one, c.copy.ensures)
     (put_over f a.bytes.now a.text (omega arith) ∙ ap (λ (g : Field). over_field g a.bytes.now a.text) (s.is ∙ in_record a.which a.field one))
-
-pub returns-else-field-count : goal.returns-else-field-count
-returns-else-field-count c = rw (le-ltb _ _ (rw c.count.ensures at c.if-field-count.false))

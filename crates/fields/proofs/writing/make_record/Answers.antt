@@ -2,10 +2,10 @@
 use Rattle.fields.specs.Values.{made_of}
 use Rattle.fields.proofs.writing.make_record.Goals as goal
 
-pub returns-in-Accepted : goal.returns-in-Accepted
+pub returns-in-Ok : goal.returns-in-Ok
 unfolding made_of
-returns-in-Accepted c = rw (← c.bytes_of-bytes.ensures, ← c.check_record-answer.ensures, c.in-Accepted.is)
+returns-in-Ok c = rw (← c.bytes_of-all.ensures, ← c.check_record-answer.ensures, c.in-Ok.is)
 
-pub returns-in-Refused : goal.returns-in-Refused
+pub returns-in-Err : goal.returns-in-Err
 unfolding made_of
-returns-in-Refused c = rw (← c.bytes_of-bytes.ensures, ← c.check_record-answer.ensures, c.in-Refused.is)
+returns-in-Err c = rw (← c.bytes_of-all.ensures, ← c.check_record-answer.ensures, c.in-Err.is)

@@ -3,14 +3,14 @@ use mathlib.Core.Path.{◌∙◌, sym}
 use Rattle.files.proofs.Arriving.{lines_first}
 use Rattle.files.proofs.incoming.arrive.Goals as goal
 
-pub returns-in-Accepted : goal.returns-in-Accepted
-returns-in-Accepted c =
+pub returns-in-Ok : goal.returns-in-Ok
+returns-in-Ok c =
     let run = c.run-stepped in
     let all = rw (← run.ensures) at (lines_first c.args.machine c.args.bytes.now) in
-    c.wait.ensures ∙ sym (rw c.in-Accepted.is at all)
+    c.wait.ensures ∙ sym (rw c.in-Ok.is at all)
 
-pub returns-in-Refused : goal.returns-in-Refused
-returns-in-Refused c =
+pub returns-in-Err : goal.returns-in-Err
+returns-in-Err c =
     let run = c.run-stepped in
     let all = rw (← run.ensures) at (lines_first c.args.machine c.args.bytes.now) in
-    c.at_line_end.ensures ∙ sym (rw c.in-Refused.is at all)
+    c.at_line_end.ensures ∙ sym (rw c.in-Err.is at all)

@@ -1,28 +1,23 @@
--- `files::lines::run` meets its contract. The loop: the steps from the place on give what all steps give. Assumes nothing.
-use mathlib.Core.Path.{◌≡◌, refl, sym, ◌∙◌}
-use native.Mathlib.Omega.{arith}
-use lib.ListN.{drop}
-use Rattle.files.specs.File.{lines_of, unless, steps}
-use Rattle.files.proofs.Rounds.{turn, no_more, stop_here}
+-- `files::lines::run` meets its contract. The loop: the steps over what is left give what all steps give. Assumes nothing.
+use Rattle.std.proofs.Common.{sym, ◌∙◌}
+use Rattle.files.proofs.Rounds.{turn, no_more, goes_on, stops}
 use Rattle.files.proofs.lines.run.Goals as goal
 
-pub loop-at-init : goal.loop-at-init
-loop-at-init c = (omega arith, refl)
+pub loop-line-preserved : goal.loop-line-preserved
+loop-line-preserved c =
+    let inv = c.loop-line.invariant in
+    let cut = c.in-Some.ensures.steps in
+    let t = turn _ _ _ cut.1.0 (rw inv.0 at cut.1.1) cut.1.2 c.loop-line.state in
+    let on = rw c.step-stepped.ensures at (sym c.is_err.ensures.value ∙ c.if-is_err.false) in
+    (cut.0 ∙ inv.0, rw c.step-stepped.ensures (sym (t ∙ goes_on _ _ _ on) ∙ inv.1))
 
--- behind a step its answer, or the steps from the line's end on, are all steps'
-pub returns-in-Refused : goal.returns-in-Refused
-returns-in-Refused c =
-    let e : unless c.step-stepped.result.answer (steps c.step-stepped.result.state (lines_of (drop c.part_end-end.result c.args.part.now))) c.step-stepped.result
-    ≡ steps c.args.from (lines_of c.args.part.now)
-    = rw c.step-stepped.ensures (sym (turn _ _ _ c.loop-at-test.true c.part_end-end.ensures _) ∙ c.loop-at.invariant.1) in
-    stop_here _ _ _ _ c.in-Refused.is e
-
-pub loop-at-preserved : goal.loop-at-preserved
-loop-at-preserved c =
-    let e : unless c.step-stepped.result.answer (steps c.step-stepped.result.state (lines_of (drop c.part_end-end.result c.args.part.now))) c.step-stepped.result
-    ≡ steps c.args.from (lines_of c.args.part.now)
-    = rw c.step-stepped.ensures (sym (turn _ _ _ c.loop-at-test.true c.part_end-end.ensures _) ∙ c.loop-at.invariant.1) in
-    (omega arith, rw c.in-Accepted.is at e)
+pub returns-then-is_err : goal.returns-then-is_err
+returns-then-is_err c =
+    let inv = c.loop-line.invariant in
+    let cut = c.in-Some.ensures.steps in
+    let t = turn _ _ _ cut.1.0 (rw inv.0 at cut.1.1) cut.1.2 c.loop-line.state in
+    let stop = rw c.step-stepped.ensures at (sym c.is_err.ensures.value ∙ c.if-is_err.true) in
+    rw c.step-stepped.ensures (sym (t ∙ stops _ _ _ stop) ∙ inv.1)
 
 pub returns : goal.returns
-returns c = sym (no_more _ _ _ c.loop-at-test.false) ∙ c.loop-at.invariant.1
+returns c = sym (no_more _ _ c.in-None.ensures.steps.1.0) ∙ c.loop-line.invariant.1

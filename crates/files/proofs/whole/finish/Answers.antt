@@ -1,7 +1,6 @@
 -- `files::whole::finish` meets its contract: the run, then the end. Assumes nothing.
-use mathlib.Core.Path.{◌≡◌, ◌∙◌}
-use mathlib.Core.List.{List}
-use Prim.Native.Nat.{ℕ}
+use Rattle.std.proofs.Common.{◌≡◌, ◌∙◌, List, ℕ}
+use Rattle.std.proofs.lemmas.Result.{err_from_is_err_and}
 use Rattle.checker.specs.declared.Checker.{Checker}
 use Rattle.checker.specs.declared.Stepped.{Stepped}
 use Rattle.files.specs.File.{lines_of, steps, end_of, outcome, finish}
@@ -12,8 +11,10 @@ by_run : (s : Checker) (rest : List ℕ) {t : Stepped} → t ≡ steps s (lines_
 unfolding finish
 by_run s rest e = rw e
 
-pub returns-in-Accepted : goal.returns-in-Accepted
-returns-in-Accepted c = c.end.ensures ∙ (rw c.in-Accepted.is at (by_run _ _ c.run-stepped.ensures))
+pub returns-in_err-stepped : goal.returns-in_err-stepped
+returns-in_err-stepped c =
+    let p = err_from_is_err_and c.from_residual.result c.from_residual.ensures.1 in
+    rw (p.1, p.2) (rw c.in_err-stepped.was at (by_run _ _ c.run-stepped.ensures))
 
-pub returns-in-Refused : goal.returns-in-Refused
-returns-in-Refused c = rw c.in-Refused.is at (by_run _ _ c.run-stepped.ensures)
+pub returns : goal.returns
+returns c = c.end.ensures ∙ (rw c.in_ok-stepped.was at (by_run _ _ c.run-stepped.ensures))

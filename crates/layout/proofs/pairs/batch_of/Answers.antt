@@ -22,5 +22,5 @@ returns c =
     let a = c.args in
     c.batch_with.ensures
     ∙ batch_is a.dir a.service.now a.form.now
-    (sym c.in-Is.is ∙ c.number_of.ensures)
-    (sym c.in-Is-number_of.is ∙ c.number_of-2.ensures)
+    (sym c.in-Some.is ∙ c.number_of.ensures)
+    (sym c.in-Some-number_of.is ∙ c.number_of-2.ensures)

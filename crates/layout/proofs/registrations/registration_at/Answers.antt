@@ -12,4 +12,4 @@ returns-then-rec-at c =
     rw none
 
 pub returns : goal.returns
-returns c = rw (c.registration_of.ensures, c.index_before-at.ensures)
+returns c = rw (c.from.ensures, c.index_before-at.ensures)

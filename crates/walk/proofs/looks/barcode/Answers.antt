@@ -5,6 +5,6 @@ use Rattle.walk.proofs.looks.barcode.Goals as goal
 
 pub returns : goal.returns
 returns c =
-    c.and_then.ensures
+    c.and.ensures
     ∙ rw (c.test-digits.ensures, c.all_digits.ensures)
     (one_then _ _ _ (c.test.ensures ∙ rw c.currency_fits-currency.ensures))

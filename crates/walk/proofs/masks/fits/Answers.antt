@@ -14,14 +14,14 @@ loop-i-preserved c =
     let l = c.loop-i in
     let a = c.args in
     let turn = within_turn a.low.now a.high.now a.rec.now l.i (search rules) in
-    (search rules, rw add-one (and_regroup l.fits _ _ _ ∙ rw (← turn) l.invariant.1))
+    rw add-one (and_regroup l.fits _ _ _ ∙ rw (← turn) l.invariant)
 
 pub returns : goal.returns
 unfolding within
 returns c =
     let l = c.loop-i in
     let end = drop_of_length-le c.args.rec.now {i = l.i} (search rules) in
-    sym (and-true l.fits) ∙ rw end at l.invariant.1
+    sym (and-true l.fits) ∙ rw end at l.invariant
 
 pub loop-i-init : goal.loop-i-init
-loop-i-init c = (search rules, refl)
+loop-i-init c = refl

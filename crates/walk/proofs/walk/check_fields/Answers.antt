@@ -18,14 +18,14 @@ overflow_add-s c =
     let s = c.span_of-s.ensures in
     let h = in_table _ s in
     let m = many_is _ s in
-    let e = c.least-end.ensures in
+    let e = c.min-end.ensures in
     omega arith
 
 pub overflow_add-s-2 : goal.overflow_add-s-2
 overflow_add-s-2 c =
     let s = c.span_of-s.ensures in
     let h = in_table _ s in
-    let e = c.least-end.ensures in
+    let e = c.min-end.ensures in
     omega arith
 
 pub walk-requires : goal.walk-requires
@@ -36,18 +36,17 @@ walk-requires c =
     let o = in_order _ s in
     let n = first_is _ s in
     let m = many_is _ s in
-    let e = c.least-end.ensures in
-    let long = c.requires.rec_len in
-    let masks = c.requires.masked_value in
-    record { columns = c.requires.columns; rec_len = (long, omega arith, omega arith); known = record { each = λ t g l u. right_at a.dir a.rec.now long a.which (sym masks ∙ t) g (omega arith) (omega arith) } }
+    let e = c.min-end.ensures in
+    let masks = c.requires in
+    record { in_order = omega arith; in_table = omega arith; known = record { each = λ t g l u. right_at a.dir a.rec.now c.told-rec a.which (sym masks ∙ t) g (omega arith) (omega arith) } }
 
 pub returns-then-end-first : goal.returns-then-end-first
 unfolding rules_of
 returns-then-end-first c =
-    let e : c.least-end.result ≡ min c.args.past (length (fields_of c.args.which)) = c.least-end.ensures ∙ rw (many_is _ c.span_of-s.ensures) in
+    let e : c.min-end.result ≡ min c.args.past (length (fields_of c.args.which)) = c.min-end.ensures ∙ rw (many_is _ c.span_of-s.ensures) in
     rw (no_fields_left _ _ _ _ e c.if-end-first.true) done
 
 pub returns : goal.returns
 returns c =
-    let e : c.least-end.result ≡ min c.args.past (length (fields_of c.args.which)) = c.least-end.ensures ∙ rw (many_is _ c.span_of-s.ensures) in
+    let e : c.min-end.result ≡ min c.args.past (length (fields_of c.args.which)) = c.min-end.ensures ∙ rw (many_is _ c.span_of-s.ensures) in
     c.walk.ensures ∙ rw (first_is _ c.span_of-s.ensures, some_fields c.args.which _ _ _ e)

@@ -19,5 +19,6 @@ write_one-requires c =
 pub returns : goal.returns
 returns c =
     let a = c.args in
-    whole_call (open_batch a.v) ((c.check_turn-turn.ensures ∙ rw (c.turns_at-may.ensures, c.phase.ensures) (turn_is c.args.self.checker _ _ (rw c.taken_as-given.ensures at c.batch_limits.ensures))))
-    (one_expected (taken_as BatchHeader a.v) ((BatchHeader ∷ []) ∷ []) _ refl (rw c.taken_as-given.ensures at c.write_one.ensures))
+    rw c.hand_back.ensures
+    (whole_call (open_batch a.v) ((c.check_turn-turn.ensures ∙ rw (c.turns_at-may.ensures, c.phase.ensures) (turn_is c.args.self.checker _ _ (rw c.taken_as-given.ensures at c.batch_limits.ensures))))
+    (one_expected (taken_as BatchHeader a.v) ((BatchHeader ∷ []) ∷ []) _ refl (rw c.taken_as-given.ensures at c.write_one.ensures)))

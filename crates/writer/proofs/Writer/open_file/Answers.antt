@@ -20,5 +20,6 @@ write_one-requires c =
 pub returns : goal.returns
 returns c =
     let a = c.args in
-    whole_call (open_file a.v) (c.check_turn-turn.ensures ∙ rw (c.turns_at-may.ensures, c.phase.ensures) (turn_is c.args.self.checker _ _ done))
-    (one_expected (taken_as FileHeader a.v) ((FileHeader ∷ []) ∷ []) _ refl (rw c.taken_as.ensures at c.write_one.ensures))
+    rw c.hand_back.ensures
+    (whole_call (open_file a.v) (c.check_turn-turn.ensures ∙ rw (c.turns_at-may.ensures, c.phase.ensures) (turn_is c.args.self.checker _ _ done))
+    (one_expected (taken_as FileHeader a.v) ((FileHeader ∷ []) ∷ []) _ refl (rw c.taken_as.ensures at c.write_one.ensures)))

@@ -15,4 +15,5 @@ write_payment-requires c =
 pub returns : goal.returns
 returns c =
     let a = c.args in
-    whole_call (pay a.p) ((c.check_turn-turn.ensures ∙ rw (c.turns_at-may.ensures, c.phase.ensures) (turn_is c.args.self.checker _ _ (rw c.records.ensures.0 at c.payment_limits-limits.ensures)))) c.write_payment.ensures
+    rw c.hand_back.ensures
+    (whole_call (pay a.p) ((c.check_turn-turn.ensures ∙ rw (c.turns_at-may.ensures, c.phase.ensures) (turn_is c.args.self.checker _ _ (rw c.records.ensures.0 at c.payment_limits-limits.ensures)))) c.write_payment.ensures)

@@ -14,4 +14,4 @@ returns c =
     let closed : c.cents.result.0 ≡ cent_sum m.closed = c.cents.ensures ∙ rw c.closed.ensures (closed_cents_fit bound) in
     let current : c.cents-2.result.0 ≡ cent_sum m.current = c.cents-2.ensures ∙ rw c.current.ensures (cents-fit bound) in
     let paid : c.plus-paid.result.0 ≡ cent_sum m.closed + cent_sum m.current = c.plus-paid.ensures ∙ rw (closed, current) (fits _ (omega arith)) in
-    rw (c.test.ensures, c.fit_a_file-fits.ensures, c.amount_of.ensures, c.first_record-first.ensures, paid)
+    rw (c.test.ensures, c.fit_a_file-fits.ensures, c.amount_of.ensures, c.first_record.ensures, paid)

@@ -4,13 +4,13 @@ use Rattle.writer.proofs.laws.Expected.{own_reading, no_reading, no_own}
 use Rattle.writer.proofs.Held.{or_none}
 use Rattle.writer.proofs.payments.is_expected.Goals as goal
 
-pub returns-in-Line : goal.returns-in-Line
-returns-in-Line c =
+pub returns-in-Some : goal.returns-in-Some
+returns-in-Some c =
     let a = c.args in
-    c.is_same.ensures ∙ or_none _ ∙ sym (own_reading a.dir a.batch a.position a.which _ (sym c.record_at-own.ensures ∙ c.in-Line.is))
+    c.is_same.ensures ∙ or_none _ ∙ sym (own_reading a.dir a.batch a.position a.which _ (sym c.record_at.ensures ∙ c.in-Some.is))
 
-pub returns-in-Nothing : goal.returns-in-Nothing
-returns-in-Nothing c =
+pub returns-in-None : goal.returns-in-None
+returns-in-None c =
     let a = c.args in
     rw (c.is_z.ensures, c.records_of.ensures)
-    (sym (no_own a.dir a.batch a.position a.which (no_reading a.position a.batch (sym c.record_at-own.ensures ∙ c.in-Nothing.is))))
+    (sym (no_own a.dir a.batch a.position a.which (no_reading a.position a.batch (sym c.record_at.ensures ∙ c.in-None.is))))

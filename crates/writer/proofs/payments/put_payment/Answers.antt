@@ -9,7 +9,7 @@ use Rattle.writer.proofs.Trying.{right_at}
 use Rattle.writer.proofs.payments.put_payment.Goals as goal
 
 pub loop-k-init : goal.loop-k-init
-loop-k-init c = (omega arith, over_first _ _)
+loop-k-init c = over_first _ _
 
 pub put_line-requires : goal.put_line-requires
 put_line-requires c =
@@ -17,19 +17,19 @@ put_line-requires c =
     let a = c.args in
     let pre = c.requires in
     let there : l.k < length a.made = omega (arith, pre.count_le_most_details) in
-    record { answer_value = right_at a.made a.count l.k _ pre.all_right (omega arith) there; line_bytes_in_bounds = line_room a.made l.k not_made l.invariant.1 there (omega (arith, pre.count_in_bounds)) }
+    record { answer_value = right_at a.made a.count l.k _ pre.all_right (omega arith) there; line_bytes_in_bounds = line_room a.made l.k not_made l.invariant there (omega (arith, pre.count_in_bounds)) }
 
 pub loop-k-preserved : goal.loop-k-preserved
 loop-k-preserved c =
     let l = c.loop-k in
     let there : l.k < length c.args.made = omega (arith, c.requires.count_le_most_details) in
-    (omega arith, over_next c.args.made l.k _ l.invariant.1 there (omega (arith, c.requires.count_in_bounds)) _ c.put_line.ensures c.put_line.auto.part)
+    over_next c.args.made l.k _ l.invariant there (omega (arith, c.requires.count_in_bounds)) _ c.put_line.ensures c.put_line.auto.part
 
 pub shape_of-part : goal.shape_of-part
-shape_of-part c = c.loop-k.invariant.1.same
+shape_of-part c = c.loop-k.invariant.same
 
 pub returns : goal.returns
-returns c = let e : c.loop-k.k ≡ c.args.count = omega arith in rw (← e) c.loop-k.invariant.1.is
+returns c = let e : c.loop-k.k ≡ c.args.count = omega arith in rw (← e) c.loop-k.invariant.is
 
 pub slice_bounds-put_line-count : goal.slice_bounds-put_line-count
 slice_bounds-put_line-count c = omega (arith, c.requires.count_in_bounds)

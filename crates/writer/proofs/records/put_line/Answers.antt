@@ -2,6 +2,7 @@
 use mathlib.Core.Path.{◌≡◌}
 use native.Mathlib.Omega.{arith}
 use lib.ListN.{length}
+use borrow.Author.Rules.{rules}
 use Rattle.fields.specs.Values.{record_of}
 use Rattle.writer.proofs.Lent.{line-end}
 use Rattle.writer.proofs.Trying.{put_right}
@@ -10,5 +11,5 @@ use Rattle.writer.proofs.records.put_line.Goals as goal
 pub returns : goal.returns
 returns c =
     let m = c.args.made in
-    let full : length m.fields.text ≡ 240 = c.well_formed.0.1.1.1.0.1.1.1.1.1.0.1.0.1 in
+    let full : length m.fields.text ≡ 240 = search rules in
     line-end (record_of m.fields.which m.fields) c.args.part.now _ (put_right m full c.requires.answer_value (omega (arith, c.requires.line_bytes_in_bounds)) c.put.ensures) c.put.auto.out c.requires.line_bytes_in_bounds

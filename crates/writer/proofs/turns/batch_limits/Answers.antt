@@ -1,5 +1,5 @@
 -- `writer::turns::batch_limits` meets its contract. Assumes nothing.
-use Rattle.answer.proofs.laws.Order.{ahead}
+use Rattle.answer.proofs.laws.Leaving.{leaves, goes_on}
 use Rattle.writer.proofs.Held.{below}
 use mathlib.Core.Path.{◌≡◌, ◌∙◌}
 use Prim.Native.Nat.{◌+◌}
@@ -8,6 +8,10 @@ use Rattle.answer.proofs.laws.Sums.{fits}
 use Rattle.writer.specs.Refusals.{kind_given, least_details, trailers}
 use Rattle.writer.proofs.turns.batch_limits.Goals as goal
 
+pub returns-in_err-test : goal.returns-in_err-test
+returns-in_err-test c =
+    leaves _ _ (rw (c.batches-few.ensures, c.closed.ensures, below) at c.test.ensures) c.in_err-test.was c.from_residual.ensures
+
 pub returns : goal.returns
 returns c =
     let a = c.args in
@@ -15,4 +19,4 @@ returns c =
     let least = c.least_details-least.ensures in
     let room : c.plus.result.0 ≡ 1 + least_details (kind_given a.m.dir a.v) + trailers =
     c.plus.ensures ∙ fits (c.least_details-least.result.0 + 3) (omega arith) ∙ rw (← kind) (omega arith) in
-    ahead c.and_then.ensures _ _ (c.test-few.ensures ∙ rw (c.batches.ensures, c.closed.ensures, below)) (c.test.ensures ∙ rw (c.fits_file-fits.ensures, room))
+    goes_on _ _ (rw (c.batches-few.ensures, c.closed.ensures, below) at c.test.ensures) c.in_ok-test.was (c.test-2.ensures ∙ rw (c.fits_file.ensures, room))

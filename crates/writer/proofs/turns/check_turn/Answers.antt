@@ -10,4 +10,4 @@ returns-then-not-is_held c = rw (sym c.is_held.ensures ∙ not-true _ c.if-not-i
 pub returns : goal.returns
 returns c =
     let e = sym c.is_held.ensures ∙ not-false _ c.if-not-is_held.false-raw in
-    rw (e, c.on_line.ensures, c.next_line.ensures, held_sound _ e, c.and_then-asked.ensures, c.test.ensures)
+    rw (e, c.on_line.ensures, c.next_line.ensures, held_sound _ e, c.and-asked.ensures, c.test.ensures)

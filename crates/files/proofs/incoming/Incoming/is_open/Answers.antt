@@ -3,6 +3,3 @@ use Rattle.files.proofs.incoming.Incoming.is_open.Goals as goal
 
 pub returns-in-Open : goal.returns-in-Open
 returns-in-Open c = rw c.in-Open.is
-
-pub returns-in-Ended : goal.returns-in-Ended
-returns-in-Ended c = rw c.in-Ended.is

@@ -1,12 +1,9 @@
 -- `files::unfinished::Unfinished::share` meets its contract. Assumes nothing.
-use Rattle.files.proofs.Waiting.{no_share, share_lacked, share_all}
+use Rattle.files.proofs.Waiting.{no_share, rest_share}
 use Rattle.files.proofs.unfinished.Unfinished.share.Goals as goal
 
-pub returns-then-len-eq0 : goal.returns-then-len-eq0
-returns-then-len-eq0 c = rw (← c.len-len.ensures.value) (no_share _ _ c.if-len-eq0.true)
+pub returns-in-0 : goal.returns-in-0
+returns-in-0 c = rw (← c.len.ensures.value) (no_share _ _ c.in-0.is)
 
-pub returns-then-len-part : goal.returns-then-len-part
-returns-then-len-part c = let n = c.len-len in rw (← n.ensures.value) (share_lacked _ _ n.ensures.upper_bound c.if-len-part.true)
-
-pub returns-else-len-part : goal.returns-else-len-part
-returns-else-len-part c = let n = c.len-len in rw (← n.ensures.value) (share_all _ _ n.ensures.upper_bound c.if-len-part.false)
+pub returns-in_default : goal.returns-in_default
+returns-in_default c = rw (c.min.ensures, ← c.len.ensures.value) (rest_share _ _ c.len.ensures.upper_bound)

@@ -10,4 +10,4 @@ slice_bounds-bytes-end c =
 pub returns : goal.returns
 returns c =
     let n = c.len-from in
-    copied c.args.self c.args.more.now _ _ n.ensures.value (omega (arith, (c.well_formed.0.1.1.0.1.0.1), c.requires, n.ensures.value)) c.copy.ensures
+    copied c.args.self c.args.more.now _ _ n.ensures.value (omega (arith, (c.well_formed.0.1.1.0.1.0.1), c.requires, n.ensures.value)) c.copy_from_slice.ensures.after

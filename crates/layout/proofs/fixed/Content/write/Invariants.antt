@@ -1,6 +1,5 @@
 use mathlib.Core.Path.{◌≡◌}
 use mathlib.Core.List.{◌++◌}
-use Prim.Native.Nat.{◌-◌, ◌≤◌}
 use lib.ListN.{length, take, drop}
 use Rattle.answer.specs.Output.{over}
 use Rattle.layout.specs.inner.Lent.{content_of}
@@ -8,7 +7,4 @@ use Rattle.layout.proofs.fixed.Content.write.Given as goal
 
 abbrev pub invariant-loop-i : goal.invariant-loop-i
 invariant-loop-i l =
-    (length l.part ≡ length l.initial.part) × (l.i ≤ length l.part) × (take l.i l.part ++ over (drop l.i (content_of l.self (length l.initial.part))) (drop l.i l.part) ≡ content_of l.self (length l.initial.part))
-
-abbrev pub decreases-loop-i : goal.decreases-loop-i
-decreases-loop-i l = length l.part - l.i
+    take l.i l.part ++ over (drop l.i (content_of l.self (length l.initial.part))) (drop l.i l.part) ≡ content_of l.self (length l.initial.part)

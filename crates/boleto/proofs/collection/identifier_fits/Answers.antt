@@ -1,7 +1,0 @@
--- `boleto::collection::identifier_fits` meets its contract: a shorter string has no byte there. Assumes nothing.
-use borrow.Author.Rules.{rules}
-use lib.ListN.{get_or-eq_default}
-use Rattle.boleto.proofs.collection.identifier_fits.Goals as goal
-
-pub returns-then-s-lt-IDENTIFIER_PLACE : goal.returns-then-s-lt-IDENTIFIER_PLACE
-returns-then-s-lt-IDENTIFIER_PLACE c = rw (get_or-eq_default c.args.s.now 0 {n = 2} (search rules))

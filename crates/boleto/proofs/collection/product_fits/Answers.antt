@@ -1,7 +1,0 @@
--- `boleto::collection::product_fits` meets its contract: a shorter string has no byte there. Assumes nothing.
-use borrow.Author.Rules.{rules}
-use lib.ListN.{get_or-eq_default}
-use Rattle.boleto.proofs.collection.product_fits.Goals as goal
-
-pub returns-then-s-lt-PRODUCT_PLACE : goal.returns-then-s-lt-PRODUCT_PLACE
-returns-then-s-lt-PRODUCT_PLACE c = rw (get_or-eq_default c.args.s.now 0 {n = 0} (search rules))

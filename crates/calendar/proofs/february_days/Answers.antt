@@ -1,9 +1,0 @@
--- `calendar::february_days` meets its contract. Assumes nothing.
-use mathlib.Core.Path.{sym, ◌∙◌}
-use Rattle.calendar.proofs.february_days.Goals as goal
-
-pub returns-then-is_leap : goal.returns-then-is_leap
-returns-then-is_leap c = rw (sym c.is_leap.ensures ∙ c.if-is_leap.true)
-
-pub returns-else-is_leap : goal.returns-else-is_leap
-returns-else-is_leap c = rw (sym c.is_leap.ensures ∙ c.if-is_leap.false)
