@@ -56,6 +56,11 @@ pub data Allowed (rules : List Rule) : Answer → Type 0 where
 abbrev pub accepts : Answer → Bool
 accepts a = is_ok a
 
+-- the answer alone, of what hands a value on where it accepts
+abbrev pub answer_alone : {A : Type 0} → Result A Refusal → Answer
+answer_alone (Ok x) = Ok tt
+answer_alone (Err r) = Err r
+
 -- the later answer counts where the first accepts
 abbrev pub and_then : Answer → Answer → Answer
 and_then first later = result_and first later

@@ -2,19 +2,19 @@
 use Rattle.std.specs.Prelude.{◌≡◌, refl, false, List, [], ◌∷◌, ◌++◌, ℕ, Option, None, Some, Result, Err, Ok, IsErr, IsErrAnd}
 use Rattle.std.proofs.Common.{sym, ◌∙◌, ap}
 use Rattle.std.proofs.lemmas.Result.{err_from_is_err_and}
-use Rattle.answer.specs.Rules.{Rule, Answer, rule, first_broken, refusal, no_line}
+use Rattle.answer.specs.Rules.{Rule, Answer, rule, first_broken, answer_alone, refusal, no_line}
 use Rattle.answer.specs.declared.Refusal.{Refusal}
 use Rattle.answer.proofs.laws.Order.{past, here, gone_on, stopped}
 use Rattle.layout.specs.Table.{type_place}
 use Rattle.layout.specs.declared.Record.{Record}
 use Rattle.checker.specs.Line.{record_in, line_is, found, rules_as, reading_rules, type_rules, line_rules, rules_of_line}
 use Rattle.checker.specs.Machine.{next}
-use Rattle.checker.specs.inner.Steps.{answer_of, behind_by, front_rules}
+use Rattle.checker.specs.inner.Steps.{behind_by, front_rules}
 use Rattle.checker.specs.declared.Checker.{Checker}
 
 -- a call that hands a value on left with the refusal that the first rules gave it
 module _ (xs ys : List Rule) {a : Answer} (asked : a ≡ first_broken xs) where
-  pub turns_back : {A : Type 0} (b : Result A Refusal) {e : Refusal} → a ≡ Err e → IsErr b × IsErrAnd b (λ y. y ≡ e) → answer_of b ≡ first_broken (xs ++ ys)
+  pub turns_back : {A : Type 0} (b : Result A Refusal) {e : Refusal} → a ≡ Err e → IsErr b × IsErrAnd b (λ y. y ≡ e) → answer_alone b ≡ first_broken (xs ++ ys)
   turns_back {A} b {e} was out =
       let p = err_from_is_err_and b out.1 in
       rw (p.1, p.2) (stopped xs ys e (sym asked ∙ was))
@@ -27,15 +27,15 @@ module _ (s : Checker) (line : List ℕ) where
   refused : (b : Result Checker Refusal) {e : Refusal} → Err e ≡ first_broken (rules_of_line s line) → IsErr b × IsErrAnd b (λ y. y ≡ e) → Behind b
   refused b {e} is out = let p = err_from_is_err_and b out.1 in rw (p.1, p.2, ← is)
 
-  pub front_refused : {A : Type 0} {f : Result A Refusal} (b : Result Checker Refusal) {e : Refusal} → answer_of f ≡ first_broken (front_rules s line) → f ≡ Err e
+  pub front_refused : {A : Type 0} {f : Result A Refusal} (b : Result Checker Refusal) {e : Refusal} → answer_alone f ≡ first_broken (front_rules s line) → f ≡ Err e
       → IsErr b × IsErrAnd b (λ y. y ≡ e) → Behind b
   unfolding rules_of_line line_rules
-  front_refused {A} {f} b {e} asked was = refused b (stopped (front_rules s line) (type_rules s (record_in line)) e (sym asked ∙ ap answer_of was))
+  front_refused {A} {f} b {e} asked was = refused b (stopped (front_rules s line) (type_rules s (record_in line)) e (sym asked ∙ ap answer_alone was))
 
-  module _ {A : Type 0} {f : Result A Refusal} {a : A} (asked : answer_of f ≡ first_broken (front_rules s line)) (was : f ≡ Ok a) where
+  module _ {A : Type 0} {f : Result A Refusal} {a : A} (asked : answer_alone f ≡ first_broken (front_rules s line)) (was : f ≡ Ok a) where
     from_type : first_broken (type_rules s (record_in line)) ≡ first_broken (rules_of_line s line)
     unfolding rules_of_line line_rules
-    from_type = gone_on (front_rules s line) (type_rules s (record_in line)) (sym asked ∙ ap answer_of was)
+    from_type = gone_on (front_rules s line) (type_rules s (record_in line)) (sym asked ∙ ap answer_alone was)
 
     pub type_refused : (b : Result Checker Refusal) {e : Refusal} → line_is s (record_in line) ≡ None → e ≡ refusal 6 no_line type_place → IsErr b × IsErrAnd b (λ y. y ≡ e) → Behind b
     unfolding type_rules

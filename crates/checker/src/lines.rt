@@ -1,10 +1,10 @@
 // The rules of a line, in the paper's order.
 ghost use Rattle.std.specs.Prelude.{◌≡◌, ◌∷◌, [], IfOk};
-ghost use Rattle.answer.specs.Rules.{first_broken};
+ghost use Rattle.answer.specs.Rules.{first_broken, answer_alone};
 ghost use Rattle.layout.specs.Records.{shape_of};
 ghost use Rattle.layout.specs.declared.shapes.LineType.TheVariants.{FileFirst, BatchFirst, Detail, BatchLast, FileLast};
 ghost use Rattle.checker.specs.Line.{bank, batch_number, rules_of_type, rules_as, line_is, record_in};
-ghost use Rattle.checker.specs.inner.Steps.{answer_of, front_rules, Bounded};
+ghost use Rattle.checker.specs.inner.Steps.{front_rules, Bounded};
 
 use super::house::check_house;
 use super::limits::{HEADER_BATCH, MOST_BATCHES, MOST_PAYMENTS, TRAILER_BATCH};
@@ -198,7 +198,7 @@ impl Checker {
 
     // The rules of a line up to its type; where they are kept, its record.
     pub(crate) fn check_front(self, line: &[u8]) -> Result<&[u8; RECORD_BYTES], Refusal>
-        ensures answer { answer_of result ≡ first_broken (front_rules self line.now) }
+        ensures answer { answer_alone result ≡ first_broken (front_rules self line.now) }
         ensures record { IfOk result (λ rec. rec.now ≡ record_in line.now) }
     {
         answer::test(numbers::BEHIND_END, 0, !order::is_ended(self.phase))?;

@@ -50,11 +50,6 @@ front_rules s line =
     ∷ ends_with line_bytes line_feed line
     ∷ []
 
--- the answer in what is handed on, or refused
-abbrev pub answer_of : {A : Type 0} → Result A Refusal → Answer
-answer_of (Ok a) = Ok tt
-answer_of (Err r) = Err r
-
 -- the state behind a line that is read, or the refusal
 abbrev pub behind_by : Answer → Checker → List ℕ → Result Checker Refusal
 behind_by (Ok tt) s rec = Ok (moved (line_is s rec) s rec)

@@ -1,6 +1,6 @@
 -- What private steps leave, for their contracts. Assumes nothing.
 use Rattle.std.specs.Prelude.{◌≡◌, Bool, true, cond, Result, IfOk, List, [], ◌∷◌, ◌++◌, ℕ, ◌+◌, ◌≤◌, length, get_or, take, drop, Ok, Err}
-use Rattle.answer.specs.Rules.{Rule, rules_on_line, refused_as, first_broken, and_then, on_line}
+use Rattle.answer.specs.Rules.{Rule, rules_on_line, refused_as, first_broken, answer_alone, and_then, on_line}
 use Rattle.answer.specs.Output.{room}
 use Rattle.answer.specs.declared.Refusal.{Refusal}
 use Rattle.answer.specs.Rules.{Answer}
@@ -44,11 +44,6 @@ pub record MayTry (expected : Bool) (r : Record) (s : Checker) : Type 0 where
   pub follows : expected ≡ true → Follows s.dir s.batch s.phase r
   pub limit : expected ≡ true → Limit r s
 
--- the answer of a call that gives a value where it accepts
-abbrev pub answer_in : {A : Type 0} → Result A Refusal → Answer
-answer_in (Ok x) = Ok tt
-answer_in (Err r) = Err r
-
 -- a record that was accepted: the state behind it; the record from its fields with what the writer fills, which is right
 pub record Makes (s : Checker) (g : Fields) (t : Tried) : Type 0 where
   pub moved : t.checker ≡ next_by s g
@@ -57,7 +52,7 @@ pub record Makes (s : Checker) (g : Fields) (t : Tried) : Type 0 where
 
 -- a record that was tried: its answer, and what is behind it
 pub record Tries (expected : Bool) (s : Checker) (g : Fields) (r : Result Tried Refusal) : Type 0 where
-  pub answered : answer_in r ≡ first_broken (given_on_line expected s g)
+  pub answered : answer_alone r ≡ first_broken (given_on_line expected s g)
   pub makes : IfOk r (Makes s g)
 
 -- the line of a record that is made
@@ -91,7 +86,7 @@ pub record MakesPayment (s : Checker) (p : Payment) (t : TriedPayment) : Type 0 
 
 -- a payment's records that were tried: their answer, and what is behind them
 pub record TriesPayment (s : Checker) (p : Payment) (r : Result TriedPayment Refusal) : Type 0 where
-  pub answered : answer_in r ≡ first_broken (all_given (expected_in_payment s) s (records_in p))
+  pub answered : answer_alone r ≡ first_broken (all_given (expected_in_payment s) s (records_in p))
   pub makes : IfOk r (MakesPayment s p)
 
 -- what a call of the writer w hands back: the state that it reached, or where it is refused w
