@@ -29,16 +29,19 @@ const LAST_OF_DECEMBER: u64 = 31120000;
 
 const FIRST_OF_MARCH: u64 = 1030000;
 
+// The digits of a number at a width.
+fn spelled<const N: usize>(n: u64) -> [u8; N] {
+    let mut text = [0; N];
+    digits::write_number(n, &mut text);
+    text
+}
+
 fn is_date(ddmmaaaa: u64) -> bool {
-    let mut text = [0u8; 8];
-    digits::write_number(ddmmaaaa, &mut text);
-    calendar::date_fits(&text)
+    calendar::date_fits(&spelled::<8>(ddmmaaaa))
 }
 
 fn is_time(hhmmss: u64) -> bool {
-    let mut text = [0u8; 6];
-    digits::write_number(hhmmss, &mut text);
-    calendar::time_fits(&text)
+    calendar::time_fits(&spelled::<6>(hhmmss))
 }
 
 fn dates_in(year: u64) -> usize

@@ -53,21 +53,27 @@ fn at_line_end(machine: Checker, status: Status) -> Incoming
     }
 }
 
-fn status_by(answer: Answer) -> Status
-    ensures { result ≡ status_by answer }
-{
-    match answer {
-        Ok(()) => Status::Open,
-        Err(r) => Status::Refused(r),
+// Behind the answer of a part: more may come.
+impl From<Answer> for Status {
+    ghost from_gives = { λ answer status. status ≡ status_by answer };
+
+    fn from(answer: Answer) -> Status {
+        match answer {
+            Ok(()) => Status::Open,
+            Err(r) => Status::Refused(r),
+        }
     }
 }
 
-fn status_behind(outcome: Outcome) -> Status
-    ensures { result ≡ status_behind outcome }
-{
-    match outcome {
-        Ok(_) => Status::Ended,
-        Err(r) => Status::Refused(r),
+// Behind the end: nothing more.
+impl From<Outcome> for Status {
+    ghost from_gives = { λ outcome status. status ≡ status_behind outcome };
+
+    fn from(outcome: Outcome) -> Status {
+        match outcome {
+            Ok(_) => Status::Ended,
+            Err(r) => Status::Refused(r),
+        }
     }
 }
 
@@ -85,7 +91,7 @@ fn wait(machine: Checker, rest: &[u8]) -> Incoming
         };
     }
     let stepped = lines::run(machine, rest);
-    at_line_end(stepped.state, status_by(stepped.answer))
+    at_line_end(stepped.state, Status::from(stepped.answer))
 }
 
 // Whole lines are checked where they lie; what is left of the bytes waits.
@@ -183,7 +189,7 @@ impl Incoming {
         let count = self.line.len();
         let outcome = finish(self.machine, &self.line.bytes[0..count]);
         Finished {
-            state: at_line_end(self.machine, status_behind(outcome)),
+            state: at_line_end(self.machine, Status::from(outcome)),
             outcome,
         }
     }

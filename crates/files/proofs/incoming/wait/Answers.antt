@@ -15,4 +15,4 @@ returns-then-not-is_ended c =
 pub returns : goal.returns
 returns c =
     let test = rw (c.is_ended.ensures, c.phase.ensures) at c.if-not-is_ended.false-raw in
-    rw (c.at_line_end.ensures, c.status_by.ensures, c.run-stepped.ensures) (judged c.args.machine c.args.rest.now c.requires test)
+    rw (c.at_line_end.ensures, c.from.ensures, c.run-stepped.ensures) (judged c.args.machine c.args.rest.now c.requires test)

@@ -10,4 +10,4 @@ slice_bounds-finish-end c = omega (arith, c.len-count.ensures.value, in_room c.a
 pub returns : goal.returns
 returns c =
     let all = c.args.self.line in
-    rw (c.at_line_end.ensures, c.status_behind.ensures, c.finish-outcome.ensures, c.len-count.ensures.value, sub-zero, at_front all)
+    rw (c.at_line_end.ensures, c.from.ensures, c.finish-outcome.ensures, c.len-count.ensures.value, sub-zero, at_front all)
