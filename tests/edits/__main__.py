@@ -136,8 +136,8 @@ def longest_first(crates):
 
 
 def jobs():
-    """Crates that are tried at a time, each with one job."""
-    return min(len(os.sched_getaffinity(0)), 2)
+    """Crates that are tried at a time, each with one job: a check takes a gigabyte or two."""
+    return min(len(os.sched_getaffinity(0)), 4)
 
 
 sys.exit(main())

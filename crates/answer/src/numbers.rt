@@ -1,5 +1,6 @@
 // The numbers that the desk refuses with, as the paper's table has them; docs/NUMBERS.md says what
-// each means.
+// each means. They are no enum: `answer::test` and `answer::refused` promise an answer for every
+// number, and the definitions compare numbers as the paper does.
 pub const WRONG_LENGTH: u8 = 1;
 
 pub const UNFINISHED: u8 = 2;

@@ -37,6 +37,7 @@ pub struct Checker {
     current: Totals,
 }
 
+// State and answer side by side, and no result: a refused line leaves a state too.
 #[derive(Clone, Copy)]
 pub struct Stepped {
     pub state: Checker,

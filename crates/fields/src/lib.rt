@@ -122,7 +122,8 @@ impl Fields {
         self.give_number(name, Some(n))
     }
 
-    // The same of cents.
+    // The same of cents. Beside `with_records`, and not one call that takes `impl Into<u64>`: that would
+    // take cents where records are due.
     pub fn with_cents(self, name: Name, cents: Cents) -> Fields
         ensures { result ≡ with_number name cents.0 self }
     {

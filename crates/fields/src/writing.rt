@@ -60,7 +60,8 @@ fn bytes_of(v: &Fields) -> [u8; RECORD_BYTES]
 }
 
 // A record that fields make: whether it is right, and if it is, its bytes. There is no other way to a
-// right one than to have it checked.
+// right one than to have it checked. The answer stands inside, and not a result around: a refused
+// record is a value too, that `none` makes, `answer` shows and no call writes.
 #[derive(Clone, Copy)]
 pub struct Made {
     answer: Answer,

@@ -28,14 +28,14 @@ pub struct Incoming {
     status: Status,
 }
 
-// What a part's call hands back.
+// What a part's call hands back: state and answer side by side, since a refused part moves the state.
 #[derive(Clone, Copy)]
 pub struct Taken {
     pub state: Incoming,
     pub answer: Answer,
 }
 
-// What the end's call hands back.
+// What the end's call hands back, the same way.
 #[derive(Clone, Copy)]
 pub struct Finished {
     pub state: Incoming,

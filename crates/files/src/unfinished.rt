@@ -6,7 +6,8 @@ ghost use Rattle.files.specs.inner.Joined.{joined, Share};
 
 use checker::LINE_BYTES;
 
-// Room for a line, and how many of its bytes are there. Behind them are zeros.
+// Room for a line, and how many of its bytes are there. Behind them are zeros. An array and a count,
+// and no `Vec`: the desk's memory is fixed.
 #[derive(Clone, Copy)]
 pub(crate) struct Unfinished {
     pub(crate) bytes: [u8; LINE_BYTES],

@@ -1,4 +1,5 @@
-// The kinds of field, by number, and what a field of each kind is filled with.
+// The kinds of field, and what a field of each kind is filled with. They are numbers and no enum: the
+// whole table is held as numbers.
 ghost use Rattle.std.specs.Prelude.{◌≡◌};
 ghost use Rattle.layout.specs.inner.Lent.{is_whole, kind_of, fill_of};
 ghost use Rattle.layout.specs.Kinds.{may_be_absent, means};

@@ -56,8 +56,9 @@ pub enum House {
     RulesOfO,
 }
 
-// A record's number in the table, the type of its line, the letter of a detail (0 in other lines),
-// the phase behind it, its amount, and what the house asks of it.
+// A record's number in the table, the type of its line, the letter of a detail, the phase behind it,
+// its amount, and what the house asks of it. The letter is no option, 0 in other lines: rule 11 of
+// every detail compares it as a byte.
 #[derive(Clone, Copy)]
 pub struct Shape {
     pub code: usize,
@@ -70,6 +71,7 @@ pub struct Shape {
 
 const NO_LETTER: u8 = 0;
 
+// Beside `trailer` and not one with it: what differs, the house's rule, would be an argument of both.
 fn header(code: usize, line: LineType, after: Phase) -> Shape
     ensures { result ≡ shape code line no_letter after None (Some OneId) }
 {
@@ -145,7 +147,7 @@ pub fn shape_of(which: Record) -> Shape
     }
 }
 
-// Whether two records are the same one.
+// Whether two records are the same one: a public promise, over the records' numbers, that `==` has not.
 pub fn is_same(which: Record, other: Record) -> bool
     ensures { result ≡ eqb (code which) (code other) }
 {

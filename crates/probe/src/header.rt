@@ -47,6 +47,7 @@ pub(crate) fn announced(text: &[u8]) -> Option<usize>
     Some(n as usize)
 }
 
+// An option, as `direction_of` and `op_of`, and no `TryFrom`: there is nothing to say of another byte.
 pub(crate) fn record_of(kind: u8) -> Option<Record> {
     match kind {
         b'0' => Some(Record::FileHeader),

@@ -54,6 +54,7 @@ pub(crate) trait Step<'a>: Sized + Drop {
 // Whether a payload is a list of steps.
 fn are_steps<'a, S: Step<'a>>(payload: &'a [u8]) -> bool {
     let mut rest = Payload(payload);
+    // Nothing is counted: each step takes bytes from the front.
     while !rest.0.is_empty() {
         if S::read(&mut rest).is_none() {
             return false;
