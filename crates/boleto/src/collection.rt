@@ -1,5 +1,9 @@
 // The two digit strings of a bill for water, power or taxes, the collection code of 44 digits and
 // the line of 48: checked, and turned into each other.
+//
+// Most functions have a twin among a boleto's. What two of them share is called by both
+// (`check_string`, `check_part`, `put`, `seal`, `answer::room`); in the two to four lines that are left
+// each calls something else, and one function for both would be handed all of it.
 ghost use Rattle.std.specs.Prelude.{◌≡◌, ◌++◌, ◌≤◌, IfOk, length, drop};
 ghost use Rattle.answer.specs.Rules.{first_broken, answer_alone};
 ghost use Rattle.answer.specs.Output.{Writes};
