@@ -3,17 +3,19 @@
 #![tactic(auto)]
 
 pub mod collection;
+mod parts;
 mod writing;
 
-ghost use Rattle.std.specs.Prelude.{◌≡◌, ◌∷◌, [], ◌≤◌, length};
-ghost use Rattle.answer.specs.Rules.{first_broken};
+ghost use Rattle.std.specs.Prelude.{◌≡◌, IfOk};
+ghost use Rattle.answer.specs.Rules.{first_broken, answer_alone};
 ghost use Rattle.answer.specs.Output.{Writes};
-ghost use Rattle.boleto.specs.Parts.{string_rules, part_rule};
+ghost use Rattle.boleto.specs.Parts.{string_rules};
 ghost use Rattle.boleto.specs.Strings.{barcode_digits, line_digits, digit_line_of, barcode_of};
-ghost use Rattle.boleto.specs.Rules.{currency_fits, general_fits, head_rules, barcode_rules, field_rule, check_rules, digit_line_rules};
+ghost use Rattle.boleto.specs.Rules.{currency_fits, general_fits, head_rules, barcode_rules, check_rules, digit_line_rules};
 
-use answer::{Answer, numbers};
+use answer::{Answer, NO_LINE, Refusal, numbers};
 use digits::Modulus;
+use parts::{check_part, places};
 use writing::{write_barcode, write_line};
 
 const BARCODE_DIGITS: usize = 44;
@@ -34,26 +36,31 @@ pub fn currency_fits(s: &[u8]) -> bool
     s.get(CURRENCY_PLACE - 1) == Some(&b'9')
 }
 
-// Whether s is a string of n digits.
-fn check_string(s: &[u8], n: usize) -> Answer
-    ensures { result ≡ first_broken (string_rules n s.now) }
+// A string of N digits, or what is wrong with it.
+fn check_string<const N: usize>(s: &[u8]) -> Result<&[u8; N], Refusal>
+    ensures answer { answer_alone result ≡ first_broken (string_rules N s.now) }
+    ensures string { IfOk result (λ string. string.now ≡ s.now) }
 {
-    if s.len() != n {
-        return answer::refused(numbers::STRING_LENGTH, 0);
-    }
-    let leading = digits::leading(s);
-    if leading != s.len() {
-        return answer::refused(numbers::STRING_DIGIT, leading + 1);
-    }
-    Ok(())
+    let Some(string) = s.as_array::<N>() else {
+        return Err(Refusal {
+            number: numbers::STRING_LENGTH,
+            line: NO_LINE,
+            place: 0,
+        });
+    };
+    let leading = digits::leading(string);
+    answer::test(numbers::STRING_DIGIT, leading + 1, leading == N)?;
+    Ok(string)
 }
 
-// The rules that barcode and line share, for a string of n digits.
-fn check_head(s: &[u8], n: usize) -> Answer
-    ensures { result ≡ first_broken (head_rules n s.now) }
+// The same by the rules that barcode and line share.
+fn check_head<const N: usize>(s: &[u8]) -> Result<&[u8; N], Refusal>
+    ensures answer { answer_alone result ≡ first_broken (head_rules N s.now) }
+    ensures string { IfOk result (λ string. string.now ≡ s.now) }
 {
-    check_string(s, n)?;
-    answer::test(numbers::CURRENCY, CURRENCY_PLACE, currency_fits(s))
+    let string = check_string::<N>(s)?;
+    answer::test(numbers::CURRENCY, CURRENCY_PLACE, currency_fits(string))?;
+    Ok(string)
 }
 
 // The general check of a barcode.
@@ -63,35 +70,18 @@ pub fn is_sealed(bar: &[u8]) -> bool
     digits::is_sealed(Modulus::Eleven, bar, BARCODE_CHECK - 1)
 }
 
-// A barcode: its length, its digits, its currency and its general check.
-pub fn check_barcode(bar: &[u8]) -> Answer
-    ensures { result ≡ first_broken (barcode_rules bar.now) }
+// A barcode that is right, or what is wrong with it.
+fn right_barcode(bar: &[u8]) -> Result<&[u8; BARCODE_DIGITS], Refusal>
+    ensures answer { answer_alone result ≡ first_broken (barcode_rules bar.now) }
+    ensures string { IfOk result (λ string. string.now ≡ bar.now) }
 {
-    check_head(bar, BARCODE_DIGITS)?;
-    answer::test(numbers::STRING_CHECK, BARCODE_CHECK, is_sealed(bar))
-}
-
-// The check digit at the end of a part of a line, which has the places from `first` to `last`. A
-// wrong one is refused with `number`.
-fn check_part(number: u8, m: Modulus, line: &[u8], first: usize, last: usize) -> Answer
-    requires { (1 ≤ first) × (first ≤ last) × (last ≤ length line.now) }
-    ensures { result ≡ first_broken (part_rule number m first last line.now ∷ []) }
-{
-    let sealed = digits::is_sealed(m, &line[first - 1..last], last - first);
-    answer::test(number, last, sealed)
-}
-
-// A field of a boleto's line.
-fn check_field(line: &[u8], first: usize, last: usize) -> Answer
-    requires { (1 ≤ first) × (first ≤ last) × (last ≤ length line.now) }
-    ensures { result ≡ first_broken (field_rule first last line.now ∷ []) }
-{
-    check_part(numbers::FIELD_CHECK, Modulus::Ten, line, first, last)
+    let bar = check_head::<BARCODE_DIGITS>(bar)?;
+    answer::test(numbers::STRING_CHECK, BARCODE_CHECK, is_sealed(bar))?;
+    Ok(bar)
 }
 
 // The general check of a line is that of its barcode.
-fn general_fits(line: &[u8]) -> bool
-    requires { length line.now ≡ line_digits }
+fn general_fits(line: &[u8; LINE_DIGITS]) -> bool
     ensures { result ≡ general_fits (barcode_of line.now) }
 {
     let mut bar = [0u8; BARCODE_DIGITS];
@@ -100,29 +90,46 @@ fn general_fits(line: &[u8]) -> bool
 }
 
 // The four check digits of a line.
-fn check_digits(line: &[u8]) -> Answer
-    requires { length line.now ≡ line_digits }
+fn check_digits(line: &[u8; LINE_DIGITS]) -> Answer
     ensures { result ≡ first_broken (check_rules line.now) }
 {
-    check_field(line, 1, 10)?;
-    check_field(line, 11, 21)?;
-    check_field(line, 22, 32)?;
+    check_part(numbers::FIELD_CHECK, Modulus::Ten, line, places(1, 10))?;
+    check_part(numbers::FIELD_CHECK, Modulus::Ten, line, places(11, 21))?;
+    check_part(numbers::FIELD_CHECK, Modulus::Ten, line, places(22, 32))?;
     answer::test(numbers::STRING_CHECK, LINE_CHECK, general_fits(line))
+}
+
+// A digit line that is right, or what is wrong with it.
+fn right_line(line: &[u8]) -> Result<&[u8; LINE_DIGITS], Refusal>
+    ensures answer { answer_alone result ≡ first_broken (digit_line_rules line.now) }
+    ensures string { IfOk result (λ string. string.now ≡ line.now) }
+{
+    let line = check_head::<LINE_DIGITS>(line)?;
+    check_digits(line)?;
+    Ok(line)
+}
+
+// A barcode: its length, its digits, its currency and its general check.
+pub fn check_barcode(bar: &[u8]) -> Answer
+    ensures { result ≡ first_broken (barcode_rules bar.now) }
+{
+    right_barcode(bar)?;
+    Ok(())
 }
 
 // A digit line: its length, its digits, its currency, its three fields and its general check.
 pub fn check_digit_line(line: &[u8]) -> Answer
     ensures { result ≡ first_broken (digit_line_rules line.now) }
 {
-    check_head(line, LINE_DIGITS)?;
-    check_digits(line)
+    right_line(line)?;
+    Ok(())
 }
 
 // Writes the line of a barcode over the first 47 bytes of out.
 pub fn barcode_to_line(bar: &[u8], out: &mut [u8]) -> Answer
     ensures { Writes (barcode_rules bar.now) line_digits (digit_line_of bar.now) out.old result out.new }
 {
-    check_barcode(bar)?;
+    let bar = right_barcode(bar)?;
     answer::room(LINE_DIGITS, out)?;
     write_line(bar, out);
     Ok(())
@@ -132,7 +139,7 @@ pub fn barcode_to_line(bar: &[u8], out: &mut [u8]) -> Answer
 pub fn line_to_barcode(line: &[u8], out: &mut [u8]) -> Answer
     ensures { Writes (digit_line_rules line.now) barcode_digits (barcode_of line.now) out.old result out.new }
 {
-    check_digit_line(line)?;
+    let line = right_line(line)?;
     answer::room(BARCODE_DIGITS, out)?;
     write_barcode(line, out);
     Ok(())

@@ -4,7 +4,7 @@ use Rattle.std.proofs.Math.Path.{refl}
 use Rattle.std.proofs.Common.{sym, ◌∙◌}
 use Rattle.std.proofs.lemmas.Result.{err_from_is_err_and}
 use borrow.Author.Tests.{leb-true}
-use Rattle.answer.specs.Rules.{Rule, Answer, first_broken, AllKept}
+use Rattle.answer.specs.Rules.{Rule, Answer, first_broken, answer_alone, AllKept}
 use Rattle.answer.specs.Output.{Writes, room}
 use Rattle.answer.specs.declared.Refusal.{Refusal}
 use Rattle.answer.proofs.laws.Order.{gone_on, stopped, accepted_kept}
@@ -20,7 +20,16 @@ left_with {b} out =
 pub left : {a b : Answer} {e : Refusal} → a ≡ Err e → IsErr b × IsErrAnd b (λ y. y ≡ e) → b ≡ a
 left was out = left_with out ∙ sym was
 
--- the same of rules and others behind them, where a is the answer of the first; and where the call went on
+-- the same of a call that hands a value on
+pub turned : {a : Answer} {A : Type 0} (b : Result A Refusal) {e : Refusal} → a ≡ Err e → IsErr b × IsErrAnd b (λ y. y ≡ e) → answer_alone b ≡ a
+turned b was out = rw (left_with {b = b} out) (sym was)
+
+-- the same of rules and others behind them, where a is the answer of the first: of a call that hands a value on
+pub turns_back : (xs ys : List Rule) {a : Answer} → a ≡ first_broken xs → {A : Type 0} (b : Result A Refusal) {e : Refusal} → a ≡ Err e → IsErr b × IsErrAnd b (λ y. y ≡ e)
+    → answer_alone b ≡ first_broken (xs ++ ys)
+turns_back xs ys asked b {e} was out = turned b was out ∙ was ∙ stopped xs ys e (sym asked ∙ was)
+
+-- of one that gives an answer; and where the call went on
 module _ (xs ys : List Rule) {a b : Answer} (asked : a ≡ first_broken xs) where
   pub leaves : {e : Refusal} → a ≡ Err e → IsErr b × IsErrAnd b (λ y. y ≡ e) → b ≡ first_broken (xs ++ ys)
   leaves {e} was out = left was out ∙ was ∙ stopped xs ys e (sym asked ∙ was)

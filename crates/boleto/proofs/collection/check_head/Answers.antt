@@ -1,21 +1,35 @@
 -- `boleto::collection::check_head` meets its contract. Assumes nothing.
-use Rattle.answer.proofs.laws.Leaving.{leaves, goes_on}
+use Rattle.std.proofs.Common.{sym, ap, ◌∙◌}
+use Rattle.answer.specs.Rules.{answer_alone}
+use Rattle.answer.proofs.laws.Leaving.{turned, turns_back, goes_on}
 use Rattle.boleto.specs.CollectionRules.{code_head_rules}
 use Rattle.boleto.proofs.collection.check_head.Goals as goal
 
-pub returns-in_err-check_string : goal.returns-in_err-check_string
+pub returns-in_err-string-clause-answer : goal.returns-in_err-string-clause-answer
 unfolding code_head_rules
-returns-in_err-check_string c =
-    leaves _ _ c.check_string.ensures c.in_err-check_string.was c.from_residual.ensures
+returns-in_err-string-clause-answer g c =
+    turns_back _ _ c.check_string.ensures.answer _ (ap answer_alone c.in_err-string.was) c.from_residual.ensures
 
-pub returns-in_err-test : goal.returns-in_err-test
+pub returns-in_err-test-clause-answer : goal.returns-in_err-test-clause-answer
 unfolding code_head_rules
-returns-in_err-test c =
-    goes_on _ _ c.check_string.ensures c.in_ok-check_string.was
-    (leaves _ _ (rw c.product_fits.ensures at c.test.ensures) c.in_err-test.was c.from_residual-in_err-test.ensures)
+returns-in_err-test-clause-answer g c =
+    let product = rw (c.product_fits.ensures, c.in_ok-string.ensures.string) at c.test.ensures in
+    goes_on _ _ c.check_string.ensures.answer (ap answer_alone c.in_ok-string.was)
+    (turns_back _ _ product _ c.in_err-test.was c.from_residual-in_err-test.ensures)
 
-pub returns : goal.returns
+pub returns-in_err-test-2-clause-answer : goal.returns-in_err-test-2-clause-answer
 unfolding code_head_rules
-returns c =
-    goes_on _ _ c.check_string.ensures c.in_ok-check_string.was
-    (goes_on _ _ (rw c.product_fits.ensures at c.test.ensures) c.in_ok-test.was (rw c.identifier_fits.ensures at c.test-2.ensures))
+returns-in_err-test-2-clause-answer g c =
+    let product = rw (c.product_fits.ensures, c.in_ok-string.ensures.string) at c.test.ensures in
+    let identifier = rw (c.identifier_fits.ensures, c.in_ok-string.ensures.string) at c.test-2.ensures in
+    goes_on _ _ c.check_string.ensures.answer (ap answer_alone c.in_ok-string.was)
+    (goes_on _ _ product c.in_ok-test.was
+    (turned _ c.in_err-test-2.was c.from_residual-in_err-test-2.ensures ∙ identifier))
+
+pub returns-clause-answer : goal.returns-clause-answer
+unfolding code_head_rules
+returns-clause-answer g c =
+    let product = rw (c.product_fits.ensures, c.in_ok-string.ensures.string) at c.test.ensures in
+    let identifier = rw (c.identifier_fits.ensures, c.in_ok-string.ensures.string) at c.test-2.ensures in
+    goes_on _ _ c.check_string.ensures.answer (ap answer_alone c.in_ok-string.was)
+    (goes_on _ _ product c.in_ok-test.was (sym c.in_ok-test-2.was ∙ identifier))

@@ -1,8 +1,11 @@
--- `boleto::collection::write_code` meets its contract: what its four calls leave is the barcode. Assumes nothing.
+-- `boleto::collection::write_code` meets its contract: what its four calls leave is the code. Assumes nothing.
 use Rattle.boleto.proofs.Steps.{code_laid}
 use Rattle.boleto.proofs.collection.write_code.Goals as goal
 
 pub returns : goal.returns
 returns c =
-    rw (c.put-4.ensures, c.put-3.ensures, c.put-2.ensures, c.put.ensures)
-    (code_laid c.args.line.now c.args.out.now c.requires.line_len c.requires.code_digits_in_bounds)
+    let put1 = rw (c.places.ensures.0, c.places.ensures.1) at c.put.ensures in
+    let put2 = rw (c.places-2.ensures.0, c.places-2.ensures.1) at c.put-2.ensures in
+    let put3 = rw (c.places-3.ensures.0, c.places-3.ensures.1) at c.put-3.ensures in
+    let put4 = rw (c.places-4.ensures.0, c.places-4.ensures.1) at c.put-4.ensures in
+    rw (put4, put3, put2, put1) (code_laid c.args.line.now c.args.out.now c.told-line c.requires)

@@ -4,15 +4,12 @@ use Rattle.boleto.proofs.collection.write_line.Goals as goal
 
 pub returns : goal.returns
 returns c =
-    rw (
-      c.seal-4.ensures,
-      c.put-4.ensures,
-      c.seal-3.ensures,
-      c.put-3.ensures,
-      c.seal-2.ensures,
-      c.put-2.ensures,
-      c.seal.ensures,
-      c.put.ensures,
-      c.modulus_of-m.ensures,
-    )
-    (code_line_laid c.args.code.now c.args.out.now c.requires.code_len c.requires.code_line_digits_in_bounds)
+    let put1 = rw (c.places.ensures.0, c.places.ensures.1) at c.put.ensures in
+    let seal1 = rw (c.places-2.ensures.0, c.places-2.ensures.1) at c.seal.ensures in
+    let put2 = rw (c.places-3.ensures.0, c.places-3.ensures.1) at c.put-2.ensures in
+    let seal2 = rw (c.places-4.ensures.0, c.places-4.ensures.1) at c.seal-2.ensures in
+    let put3 = rw (c.places-5.ensures.0, c.places-5.ensures.1) at c.put-3.ensures in
+    let seal3 = rw (c.places-6.ensures.0, c.places-6.ensures.1) at c.seal-3.ensures in
+    let put4 = rw (c.places-7.ensures.0, c.places-7.ensures.1) at c.put-4.ensures in
+    let seal4 = rw (c.places-8.ensures.0, c.places-8.ensures.1) at c.seal-4.ensures in
+    rw (seal4, put4, seal3, put3, seal2, put2, seal1, put1, c.modulus_of-m.ensures) (code_line_laid c.args.code.now c.args.out.now c.told-code c.requires)

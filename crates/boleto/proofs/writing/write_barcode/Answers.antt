@@ -4,5 +4,9 @@ use Rattle.boleto.proofs.writing.write_barcode.Goals as goal
 
 pub returns : goal.returns
 returns c =
-    rw (c.put-5.ensures, c.put-4.ensures, c.put-3.ensures, c.put-2.ensures, c.put.ensures)
-    (barcode_laid c.args.line.now c.args.out.now c.requires.line_len c.requires.barcode_digits_in_bounds)
+    let put1 = rw (c.places.ensures.0, c.places.ensures.1) at c.put.ensures in
+    let put2 = rw (c.places-2.ensures.0, c.places-2.ensures.1) at c.put-2.ensures in
+    let put3 = rw (c.places-3.ensures.0, c.places-3.ensures.1) at c.put-3.ensures in
+    let put4 = rw (c.places-4.ensures.0, c.places-4.ensures.1) at c.put-4.ensures in
+    let put5 = rw (c.places-5.ensures.0, c.places-5.ensures.1) at c.put-5.ensures in
+    rw (put5, put4, put3, put2, put1) (barcode_laid c.args.line.now c.args.out.now c.told-line c.requires)
