@@ -1,4 +1,4 @@
--- `walk::walk::check_marks` meets its contract. Assumes nothing.
+-- `walk::walk::Checked::check_marks` meets its contract. Assumes nothing.
 use mathlib.Core.Path.{sym, ap, ◌∙◌}
 use native.Mathlib.Omega.{arith}
 use borrow.Author.Tests.{not-true, not-false}
@@ -6,7 +6,7 @@ use Rattle.layout.proofs.laws.Columns.{type_there, segment_there, first_is, mark
 use Rattle.layout.specs.Records.{is_detail}
 use Rattle.layout.specs.declared.shapes.Shape.{Shape}
 use Rattle.walk.proofs.Rounds.{type_alone, type_then}
-use Rattle.walk.proofs.walk.check_marks.Goals as goal
+use Rattle.walk.proofs.walk.Checked.check_marks.Goals as goal
 
 pub walk-type_fits-requires : goal.walk-type_fits-requires
 walk-type_fits-requires c =
@@ -15,7 +15,7 @@ walk-type_fits-requires c =
 
 pub returns-then-not-is_detail : goal.returns-then-not-is_detail
 returns-then-not-is_detail c =
-    let r = c.args.which in
+    let r = c.args.self.which in
     let no = sym ((c.is_detail.ensures ∙ ap (λ (x : Shape). is_detail x.line) c.shape_of.ensures)) ∙ not-true _ c.if-not-is_detail.true-raw in
     c.walk-type_fits.ensures ∙ rw (first_is r c.span_of-s.ensures, type_there r) (type_alone r _ _ no)
 
@@ -26,7 +26,7 @@ walk-requires c =
 
 pub returns : goal.returns
 returns c =
-    let r = c.args.which in
+    let r = c.args.self.which in
     let first = first_is r c.span_of-s.ensures in
     let some = sym ((c.is_detail.ensures ∙ ap (λ (x : Shape). is_detail x.line) c.shape_of.ensures)) ∙ not-false _ c.if-not-is_detail.false-raw in
     c.and.ensures ∙ rw (c.walk-type_fits.ensures, c.walk.ensures, first, type_there r, segment_there r some) (type_then r _ _)
