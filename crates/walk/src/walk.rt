@@ -20,6 +20,7 @@ const SEGMENT_FIELD: usize = 4;
 
 // The rules of the fields from `first` up to `past`. Where the record lies between its masks, a field
 // whose rule asks no more than they tell is right, and is not looked at.
+// Of `Checked` it would have to ask, besides, that `first` and `past` lie in the record's own fields.
 fn walk(rec: &[u8; RECORD_BYTES], first: usize, past: usize, dir: Direction, masked: bool) -> Answer
     requires in_order { first ≤ past }
     requires in_table { past ≤ field_count }
@@ -72,6 +73,7 @@ pub(crate) struct Checked<'a> {
 }
 
 impl<'a> Checked<'a> {
+    // The masks are tested here, once for all that is asked of the record.
     pub(crate) fn new(rec: &'a [u8; RECORD_BYTES], which: Record, dir: Direction) -> Self
         ensures bytes { result.rec.now ≡ rec.now }
         ensures record { result.which ≡ which }
@@ -89,14 +91,11 @@ impl<'a> Checked<'a> {
     pub(crate) fn check_marks(self) -> Answer
         ensures { result ≡ first_broken (rules_of (marks self.entry.which) self.entry.dir self.entry.rec.now) }
     {
-        let s = layout::span_of(self.which);
-        let type_at = s.first + TYPE_FIELD;
-        let type_fits = walk(self.rec, type_at, type_at + 1, self.dir, false);
+        let type_fits = self.check_fields(TYPE_FIELD, TYPE_FIELD + 1);
         if !shape_of(self.which).line.is_detail() {
             return type_fits;
         }
-        let segment_at = s.first + SEGMENT_FIELD;
-        type_fits.and(walk(self.rec, segment_at, segment_at + 1, self.dir, false))
+        type_fits.and(self.check_fields(SEGMENT_FIELD, SEGMENT_FIELD + 1))
     }
 
     // The fields of the record from the index `first` up to `past`.

@@ -1,5 +1,5 @@
 -- `walk::masks::fits` meets its contract: so far, and the rest, is the whole. Assumes nothing.
-use mathlib.Core.Path.{refl, sym, ◌∙◌}
+use mathlib.Core.Path.{sym, ◌∙◌}
 use mathlib.Core.Bool.{and-true}
 use native.Mathlib.Numerals.{add-one}
 use borrow.Author.Rules.{rules}
@@ -22,6 +22,3 @@ returns c =
     let l = c.loop-i in
     let end = drop_of_length-le c.args.rec.now {i = l.i} (search rules) in
     sym (and-true l.fits) ∙ rw end at l.invariant
-
-pub loop-i-init : goal.loop-i-init
-loop-i-init c = refl
