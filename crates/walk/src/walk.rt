@@ -73,7 +73,9 @@ pub(crate) struct Checked<'a> {
 }
 
 impl<'a> Checked<'a> {
-    // The masks are tested here, once for all that is asked of the record.
+    // The masks are tested here, once for all that is asked of the record. Put in line, as `check_fields`
+    // is, so that the parts travel in registers.
+    #[inline(always)]
     pub(crate) fn new(rec: &'a [u8; RECORD_BYTES], which: Record, dir: Direction) -> Self
         ensures bytes { result.rec.now ≡ rec.now }
         ensures record { result.which ≡ which }
@@ -99,6 +101,7 @@ impl<'a> Checked<'a> {
     }
 
     // The fields of the record from the index `first` up to `past`.
+    #[inline(always)]
     pub(crate) fn check_fields(self, first: usize, past: usize) -> Answer
         ensures { result ≡ first_broken (rules_of (slice first past (fields_of self.entry.which)) self.entry.dir self.entry.rec.now) }
     {
