@@ -1,6 +1,5 @@
 // The byte check: each from 32 to 126.
-ghost use Rattle.std.specs.Prelude.{◌≡◌, ◌∷◌, [], not};
-ghost use Rattle.std.specs.List.{position};
+ghost use Rattle.std.specs.Prelude.{◌≡◌, ◌∷◌, []};
 ghost use Rattle.answer.specs.Rules.{first_broken};
 ghost use Rattle.layout.specs.Record.{printable, byte_rule, all_printable};
 
@@ -20,18 +19,7 @@ fn is_printable(b: u8) -> bool
 fn is_clean(rec: &[u8]) -> bool
     ensures { result ≡ all_printable rec.now }
 {
-    let mut clean = true;
-    for b in rec {
-        clean &= is_printable(*b);
-    }
-    clean
-}
-
-// The index of the first byte that is not printable.
-fn first_wrong(rec: &[u8]) -> Option<usize>
-    ensures { result ≡ position (λ b. not (printable b)) rec.now }
-{
-    rec.iter().position(|b| !is_printable(*b))
+    rec.iter().fold(true, |clean, b| clean & is_printable(*b))
 }
 
 // Only bytes that are not all printable are walked for the first one that is not.
@@ -41,8 +29,12 @@ pub fn check_bytes(rec: &[u8]) -> Answer
     if is_clean(rec) {
         return Ok(());
     }
-    match first_wrong(rec) {
-        Some(i) => answer::refused(numbers::NOT_PRINTABLE, i + 1),
-        None => Ok(()),
+    'bytes: {
+        for (i, b) in rec.iter().enumerate() {
+            if !is_printable(*b) {
+                break 'bytes answer::refused(numbers::NOT_PRINTABLE, i + 1);
+            }
+        }
+        Ok(())
     }
 }

@@ -14,7 +14,7 @@ ghost use Rattle.walk.specs.Parts.{in_parts};
 use answer::{Answer, numbers};
 pub use bytes::check_bytes;
 use layout::{Direction, FIELDS, RECORD_BYTES, Record};
-use masks::hold;
+use walk::Checked;
 
 // The answers of a record's fields in three parts, cut at two indexes.
 #[derive(Clone, Copy)]
@@ -31,10 +31,10 @@ pub fn check_record(rec: &[u8], which: Record, dir: Direction) -> Answer
     let Some(rec) = rec.as_array::<RECORD_BYTES>() else {
         return answer::refused(numbers::WRONG_LENGTH, 0);
     };
-    let masked = hold(rec, which, dir);
+    let checked = Checked::new(rec, which, dir);
     let clean = check_bytes(rec);
-    let marks = walk::check_marks(rec, which, dir);
-    let fields = walk::check_fields(rec, which, dir, 0, FIELDS, masked);
+    let marks = checked.check_marks();
+    let fields = checked.check_fields(0, FIELDS);
     clean.and(marks.and(fields))
 }
 
@@ -46,8 +46,7 @@ pub fn check_fields(rec: &[u8], which: Record, dir: Direction, first: usize, pas
     let Some(rec) = rec.as_array::<RECORD_BYTES>() else {
         return answer::refused(numbers::WRONG_LENGTH, 0);
     };
-    let masked = hold(rec, which, dir);
-    walk::check_fields(rec, which, dir, first, past, masked)
+    Checked::new(rec, which, dir).check_fields(first, past)
 }
 
 // Some fields of a record in three parts, for whoever asks something else between them: from the
@@ -71,13 +70,10 @@ pub fn check_parts(
             rest: refused,
         };
     };
-    let masked = hold(rec, which, dir);
-    let front = walk::check_fields(rec, which, dir, first, second, masked);
-    let middle = walk::check_fields(rec, which, dir, second, third, masked);
-    let rest = walk::check_fields(rec, which, dir, third, FIELDS, masked);
+    let checked = Checked::new(rec, which, dir);
     Parts {
-        front,
-        middle,
-        rest,
+        front: checked.check_fields(first, second),
+        middle: checked.check_fields(second, third),
+        rest: checked.check_fields(third, FIELDS),
     }
 }

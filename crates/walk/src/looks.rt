@@ -52,7 +52,6 @@ fn barcode(part: &[u8], place: usize) -> Answer
 
 // The characters of a registration number, by the type that stands before it in the record.
 fn id(part: &[u8], rec: &[u8; RECORD_BYTES], place: usize) -> Answer
-    requires { place ≤ record_bytes }
     ensures { result ≡ first_broken (id_characters (a_part place part.now rec.now Remittance)) }
 {
     let registration = layout::registration_at(rec, place);
@@ -134,6 +133,8 @@ fn fixed(content: Content) -> Look
 }
 
 // The rule of each kind, for a field from this place on.
+// What says where the field stands isn't one value: it would make each promise here longer, as
+// `a_part part.entry.place part.entry.bytes.now part.entry.rec.now part.entry.dir`.
 pub(crate) fn look_at(
     k: u8,
     dir: Direction,

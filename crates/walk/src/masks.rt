@@ -87,11 +87,10 @@ const O_HIGH_RETURN: [u8; RECORD_BYTES] =
 fn fits(low: &[u8; RECORD_BYTES], high: &[u8; RECORD_BYTES], rec: &[u8; RECORD_BYTES]) -> bool
     ensures { result ≡ within low.now high.now rec.now }
 {
-    let mut fits = true;
-    for (i, b) in rec.iter().enumerate() {
-        fits = fits & (low[i] <= *b) & (*b <= high[i]);
-    }
-    fits
+    let bounds = low.iter().zip(high.iter());
+    rec.iter()
+        .zip(bounds)
+        .fold(true, |fits, (b, (l, h))| fits & (*l <= *b) & (*b <= *h))
 }
 
 // Whether a record lies between its masks. What is blank in a remittance may be any byte in a return.

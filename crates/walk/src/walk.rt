@@ -1,13 +1,14 @@
 // The walk over a record's fields and their bytes, left at the first wrong byte.
-ghost use Rattle.std.specs.Prelude.{◌≡◌, ◌≤◌};
+ghost use Rattle.std.specs.Prelude.{◌≡◌, ◌≤◌, ◌+◌, length};
 ghost use Rattle.std.proofs.Math.Seq.{slice};
 ghost use Rattle.answer.specs.Rules.{first_broken};
-ghost use Rattle.layout.specs.inner.Lent.{field_count};
+ghost use Rattle.layout.specs.inner.Lent.{field_count, start_of};
 ghost use Rattle.layout.specs.Table.{marks, fields_of, all};
 ghost use Rattle.layout.specs.Record.{rules_of};
-ghost use Rattle.walk.specs.inner.Masks.{within, lows_of, highs_of, Known};
+ghost use Rattle.walk.specs.inner.Masks.{Known};
 
 use super::looks::{Look, look_at};
+use super::masks::hold;
 use answer::{Answer, numbers};
 use layout::kinds::is_whole;
 use layout::{Direction, RECORD_BYTES, Record, shape_of};
@@ -19,6 +20,7 @@ const SEGMENT_FIELD: usize = 4;
 
 // The rules of the fields from `first` up to `past`. Where the record lies between its masks, a field
 // whose rule asks no more than they tell is right, and is not looked at.
+// Of `Checked` it would have to ask, besides, that `first` and `past` lie in the record's own fields.
 fn walk(rec: &[u8; RECORD_BYTES], first: usize, past: usize, dir: Direction, masked: bool) -> Answer
     requires in_order { first ≤ past }
     requires in_table { past ≤ field_count }
@@ -59,37 +61,61 @@ fn walk(rec: &[u8; RECORD_BYTES], first: usize, past: usize, dir: Direction, mas
     }
 }
 
-// The record's type, and its segment if it has one.
-pub(crate) fn check_marks(rec: &[u8; RECORD_BYTES], which: Record, dir: Direction) -> Answer
-    ensures { result ≡ first_broken (rules_of (marks which) dir rec.now) }
-{
-    let s = layout::span_of(which);
-    let type_at = s.first + TYPE_FIELD;
-    let type_fits = walk(rec, type_at, type_at + 1, dir, false);
-    if !shape_of(which).line.is_detail() {
-        return type_fits;
-    }
-    let segment_at = s.first + SEGMENT_FIELD;
-    type_fits.and(walk(rec, segment_at, segment_at + 1, dir, false))
-}
-
-// The fields of a record from the index `first` up to `past`. Whether the record lies between its
-// masks was asked before.
-pub(crate) fn check_fields(
-    rec: &[u8; RECORD_BYTES],
+// A record that is checked: its bytes, what record it is to be, and whether its bytes lie between the
+// masks of that record, which then tell of its fields what they can.
+#[derive(Clone, Copy)]
+pub(crate) struct Checked<'a> {
+    rec: &'a [u8; RECORD_BYTES],
     which: Record,
     dir: Direction,
-    first: usize,
-    past: usize,
     masked: bool,
-) -> Answer
-    requires { masked ≡ within (lows_of (fields_of which)) (highs_of dir (fields_of which)) rec.now }
-    ensures { result ≡ first_broken (rules_of (slice first past (fields_of which)) dir rec.now) }
-{
-    let s = layout::span_of(which);
-    let end = past.min(s.past - s.first);
-    if end <= first {
-        return Ok(());
+    ghost known: { Known masked (start_of which) (start_of which + length (fields_of which)) dir rec.now },
+}
+
+impl<'a> Checked<'a> {
+    // The masks are tested here, once for all that is asked of the record. Put in line, as `check_fields`
+    // is, so that the parts travel in registers.
+    #[inline(always)]
+    pub(crate) fn new(rec: &'a [u8; RECORD_BYTES], which: Record, dir: Direction) -> Self
+        ensures bytes { result.rec.now ≡ rec.now }
+        ensures record { result.which ≡ which }
+        ensures direction { result.dir ≡ dir }
+    {
+        Checked {
+            rec,
+            which,
+            dir,
+            masked: hold(rec, which, dir),
+        }
     }
-    walk(rec, s.first + first, s.first + end, dir, masked)
+
+    // The record's type, and its segment if it has one.
+    pub(crate) fn check_marks(self) -> Answer
+        ensures { result ≡ first_broken (rules_of (marks self.entry.which) self.entry.dir self.entry.rec.now) }
+    {
+        let type_fits = self.check_fields(TYPE_FIELD, TYPE_FIELD + 1);
+        if !shape_of(self.which).line.is_detail() {
+            return type_fits;
+        }
+        type_fits.and(self.check_fields(SEGMENT_FIELD, SEGMENT_FIELD + 1))
+    }
+
+    // The fields of the record from the index `first` up to `past`.
+    #[inline(always)]
+    pub(crate) fn check_fields(self, first: usize, past: usize) -> Answer
+        ensures { result ≡ first_broken (rules_of (slice first past (fields_of self.entry.which)) self.entry.dir self.entry.rec.now) }
+    {
+        let s = layout::span_of(self.which);
+        let end = past.min(s.past - s.first);
+        if end <= first {
+            return Ok(());
+        }
+        walk(
+            self.rec,
+            s.first + first,
+            s.first + end,
+            self.dir,
+            self.masked,
+        )
+    }
 }

@@ -12,4 +12,4 @@ returns-in_default c =
 pub returns : goal.returns
 returns c =
     let whole = MatchOption-at_some _ _ _ c.in-Some.is c.as_array.ensures.cases in
-    past _ _ _ _ _ (eq-eqb _ _ whole.long) (c.check_fields.ensures ∙ rw whole.same)
+    past _ _ _ _ _ (eq-eqb _ _ whole.long) (c.check_fields.ensures ∙ rw (c.new.ensures.bytes, c.new.ensures.record, c.new.ensures.direction, whole.same))

@@ -33,8 +33,11 @@ pub returns : goal.returns
 returns c =
     let whole = MatchOption-at_some _ _ _ c.in-Some.is c.as_array.ensures.cases in
     let long = eq-eqb _ _ whole.long in
-    let front = past _ _ _ _ _ long (c.check_fields-front.ensures ∙ rw whole.same) in
-    let middle = past _ _ _ _ _ long (c.check_fields-middle.ensures ∙ rw whole.same) in
-    let last = c.check_fields-rest.ensures ∙ ap first_broken (to_last c.args.which c.args.dir c.args.third _) in
-    let rest = past _ _ _ _ _ long (last ∙ rw whole.same) in
+    let made = c.new-checked.ensures in
+    let front = past _ _ _ _ _ long (c.check_fields.ensures ∙ rw (made.bytes, made.record, made.direction, whole.same)) in
+    let middle = past _ _ _ _ _ long (c.check_fields-2.ensures ∙ rw (made.bytes, made.record, made.direction, whole.same)) in
+    let rest =
+    past _ _ _ _ _ long
+    (c.check_fields-3.ensures
+    ∙ rw (made.bytes, made.record, made.direction, whole.same) (ap first_broken (to_last c.args.which c.args.dir c.args.third c.args.rec.now))) in
     λ i. record { front = front i; middle = middle i; rest = rest i }

@@ -16,5 +16,6 @@ pub returns : goal.returns
 unfolding record_rules
 returns c =
     let whole = MatchOption-at_some _ _ _ c.in-Some.is c.as_array.ensures.cases in
-    let fields = c.and.ensures ∙ rw (c.check_marks-marks.ensures, c.check_fields-fields.ensures, all_fields _) (sym (first_append _ _)) in
+    let made = c.new-checked.ensures in
+    let fields = c.and.ensures ∙ rw (c.check_marks-marks.ensures, c.check_fields-fields.ensures, made.bytes, made.record, made.direction, all_fields _) (sym (first_append _ _)) in
     past _ _ _ _ _ (eq-eqb _ _ whole.long) (c.and-2.ensures ∙ rw (c.check_bytes-clean.ensures, ← whole.same) (one_then _ _ _ fields))

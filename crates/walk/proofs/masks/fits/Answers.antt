@@ -1,27 +1,18 @@
--- `walk::masks::fits` meets its contract: so far, and the rest, is the whole. Assumes nothing.
-use mathlib.Core.Path.{refl, sym, ◌∙◌}
-use mathlib.Core.Bool.{and-true}
-use native.Mathlib.Numerals.{add-one}
+-- `walk::masks::fits` meets its contract. Assumes nothing.
+use mathlib.Core.Path.{◌≡◌, ◌∙◌}
+use mathlib.Core.Bool.{true}
 use borrow.Author.Rules.{rules}
-use lib.ListN.{drop_of_length-le}
-use Rattle.walk.specs.inner.Masks.{within}
-use Rattle.digits.proofs.laws.Tests.{and_regroup}
-use Rattle.walk.proofs.laws.Masks.{within_turn}
+use Rattle.std.specs.List.{fold, zip}
+use Rattle.std.proofs.lemmas.Iterator.{YieldsList-from_slice, YieldsList-from_zip}
+use Rattle.std.proofs.lemmas.Iterator.Consumers.{fold_from_yields_List}
+use Rattle.walk.proofs.laws.Masks.{fits_so_far, fold_within}
 use Rattle.walk.proofs.masks.fits.Goals as goal
 
-pub loop-i-preserved : goal.loop-i-preserved
-loop-i-preserved c =
-    let l = c.loop-i in
-    let a = c.args in
-    let turn = within_turn a.low.now a.high.now a.rec.now l.i (search rules) in
-    rw add-one (and_regroup l.fits _ _ _ ∙ rw (← turn) l.invariant)
-
 pub returns : goal.returns
-unfolding within
 returns c =
-    let l = c.loop-i in
-    let end = drop_of_length-le c.args.rec.now {i = l.i} (search rules) in
-    sym (and-true l.fits) ∙ rw end at l.invariant
-
-pub loop-i-init : goal.loop-i-init
-loop-i-init c = refl
+    let low = c.args.low.now in
+    let high = c.args.high.now in
+    let rec = c.args.rec.now in
+    let e : c.fold.result ≡ fold fits_so_far true (zip rec (zip low high)) =
+    fold_from_yields_List _ _ _ _ c.fold.ensures.ran (YieldsList-from_zip (YieldsList-from_slice rec cc) (YieldsList-from_zip (YieldsList-from_slice low cc) (YieldsList-from_slice high cc))) (λ a x b q k. search rules) in
+    e ∙ fold_within true low high rec (search rules) (search rules)

@@ -1,6 +1,6 @@
 -- `walk::walk::walk` meets its contract. The fields' loop: the answer for the fields from f on is that for all. The digits' loop: the digits
 -- are i and those that the rest begins with. The content's loop: the rest is the same just if all is. Assumes nothing.
-use mathlib.Core.Path.{◌≡◌, refl, sym, ◌∙◌}
+use mathlib.Core.Path.{◌≡◌, sym, ◌∙◌}
 use mathlib.Core.Bool.{true, not, ◌&&◌}
 use native.Mathlib.Omega.{arith}
 use borrow.Author.Rules.{rules}
@@ -12,9 +12,6 @@ use Rattle.walk.proofs.Rows.{digits_looked, content_looked, was_tested}
 use Rattle.walk.proofs.Rounds.{digit_more, digit_wrong, digits_end, byte_more, byte_wrong, content_end, only_kept, only_broken, here_at, skip_at, finished}
 use Rattle.walk.proofs.walk.walk.Goals as goal
 use Rattle.walk.proofs.walk.walk.Goals.{in-Digits+else-loop-b-test, in-Fixed+else-loop-i-test, in-Tested-Ok}
-
-pub loop-f-init : goal.loop-f-init
-loop-f-init c = refl
 
 pub loop-f-preserved-then-masked-is_whole : goal.loop-f-preserved-then-masked-is_whole
 loop-f-preserved-then-masked-is_whole c =
@@ -44,14 +41,8 @@ look_at-requires-clause-holds c =
 pub look_at-requires-clause-in_record : goal.look_at-requires-clause-in_record
 look_at-requires-clause-in_record c = let s = entry_stands c.field_at-e.result c.field_at-e.ensures (search rules) in omega (arith, s.order, s.high)
 
-pub loop-b-init : goal.loop-b-init
-loop-b-init c = omega arith
-
 pub loop-b-preserved : goal.loop-b-preserved
 loop-b-preserved c = digit_more _ _ c.loop-b.invariant c.loop-b-test.true c.if-not-is_digit.false-raw
-
-pub loop-i-init : goal.loop-i-init
-loop-i-init c = record { rest = refl }
 
 pub loop-i-preserved : goal.loop-i-preserved
 loop-i-preserved c = byte_more c.loop-i.invariant c.byte_at.ensures c.loop-i-test.true c.if-b-byte_at.false
