@@ -9,8 +9,8 @@ returns c =
     let amount = c.args.shape.amount in
     let rec = c.args.rec.now in
     rw (
-      c.only.ensures,
-      c.only-2.ensures,
+      c.of.ensures,
+      c.of-2.ensures,
       c.batches_by.ensures,
       c.withdraws-withdrawn.ensures,
       c.tally_by-tally.ensures,
