@@ -1,4 +1,5 @@
 -- `checker::Checker::check_detail` meets its contract: its head, rule by rule, then its body. Assumes nothing.
+use borrow.Author.Rules.{rules}
 use mathlib.Core.List.{◌∷◌, []}
 use mathlib.Core.Path.{◌≡◌, sym, ap, ◌∙◌}
 use native.Mathlib.Omega.{arith}
@@ -6,7 +7,7 @@ use Rattle.answer.specs.Rules.{rule, first_broken}
 use Rattle.answer.proofs.laws.Order.{ahead, joined}
 use Rattle.checker.proofs.laws.Bounds.{payments_fit}
 use Rattle.answer.proofs.laws.Leaving.{leaves, goes_on}
-use Rattle.layout.specs.Table.{segment_place}
+use Rattle.layout.specs.Table.{record_bytes, segment_place}
 use Rattle.layout.specs.Record.{rules_of}
 use Rattle.checker.specs.Line.{behind}
 use Rattle.checker.proofs.Fields.{body, segment_rule, head_joined}
@@ -38,24 +39,26 @@ overflow_add-few c = let b = c.requires.bounded in let p = c.payments_by.ensures
 
 pub returns : goal.returns
 returns c =
-    let row = c.requires.shape_value.0 in
-    let is = is_detail c.args.which row c.requires.shape_value.1 in
-    let many = many_is c.args.which row c.payments_by.ensures.0 in
+    let row = c.args.reading.row in
+    let is = is_detail c.args.reading.which row c.requires.detail in
+    let many = many_is c.args.reading.which row c.payments_by.ensures.0 in
+    let long : length c.args.reading.rec.now ≡ record_bytes = search rules in
     let bound = c.requires.bounded in
     let limit = rw (c.payments.ensures ∙ payments_fit bound, many) at c.test-limit.ensures in
-    let letter = letter_is c.args.which row c.args.rec.now c.test-segment.ensures ∙ segment_rule _ _ c.told-rec c.args.which is in
+    let letter = letter_is c.args.reading.which row c.args.reading.rec.now c.test-segment.ensures ∙ segment_rule _ _ long c.args.reading.which is in
     let number = ahead c.and-2.ensures _ _ (rw c.records.ensures at c.check_records-number.ensures) (joined c.and.ensures _ _ letter limit) in
     let head = ahead c.and-4.ensures _ _ c.check_bank-bank.ensures (ahead c.and-3.ensures _ _ (rw c.batches.ensures at c.check_batch-batch.ensures) number) in
-    goes_on _ _ head c.in_ok-and.was (body _ _ c.told-rec c.args.which is c.check_fields.ensures) ∙ head_joined c.args.which c.args.self _
+    goes_on _ _ head c.in_ok-and.was (body _ _ long c.args.reading.which is c.check_fields.ensures) ∙ head_joined c.args.reading.which c.args.self _
 
 pub returns-in_err-and : goal.returns-in_err-and
 returns-in_err-and c =
-    let row = c.requires.shape_value.0 in
-    let is = is_detail c.args.which row c.requires.shape_value.1 in
-    let many = many_is c.args.which row c.payments_by.ensures.0 in
+    let row = c.args.reading.row in
+    let is = is_detail c.args.reading.which row c.requires.detail in
+    let many = many_is c.args.reading.which row c.payments_by.ensures.0 in
+    let long : length c.args.reading.rec.now ≡ record_bytes = search rules in
     let bound = c.requires.bounded in
     let limit = rw (c.payments.ensures ∙ payments_fit bound, many) at c.test-limit.ensures in
-    let letter = letter_is c.args.which row c.args.rec.now c.test-segment.ensures ∙ segment_rule _ _ c.told-rec c.args.which is in
+    let letter = letter_is c.args.reading.which row c.args.reading.rec.now c.test-segment.ensures ∙ segment_rule _ _ long c.args.reading.which is in
     let number = ahead c.and-2.ensures _ _ (rw c.records.ensures at c.check_records-number.ensures) (joined c.and.ensures _ _ letter limit) in
     let head = ahead c.and-4.ensures _ _ c.check_bank-bank.ensures (ahead c.and-3.ensures _ _ (rw c.batches.ensures at c.check_batch-batch.ensures) number) in
-    leaves _ (rules_of (behind segment_place c.args.which) c.args.self.dir c.args.rec.now) head c.in_err-and.was c.from_residual.ensures ∙ head_joined c.args.which c.args.self _
+    leaves _ (rules_of (behind segment_place c.args.reading.which) c.args.self.dir c.args.reading.rec.now) head c.in_err-and.was c.from_residual.ensures ∙ head_joined c.args.reading.which c.args.self _

@@ -21,25 +21,25 @@ as_type t r s rec e n = rw e (ap (λ (q : Record). first_broken (rules_of_type t
 
 pub returns-in-FileFirst : goal.returns-in-FileFirst
 returns-in-FileFirst c =
-    let e = sym (ap (λ (x : Shape). x.line) c.requires.shape_value) ∙ c.in-FileFirst.is in
-    c.check_file_header.ensures ∙ as_type FileFirst c.args.which c.args.self _ e refl
+    let e = sym (ap (λ (x : Shape). x.line) c.args.reading.row) ∙ c.in-FileFirst.is in
+    c.check_file_header.ensures ∙ as_type FileFirst c.args.reading.which c.args.self _ e refl
 
 pub returns-in-BatchFirst : goal.returns-in-BatchFirst
 returns-in-BatchFirst c =
-    let e = sym (ap (λ (x : Shape). x.line) c.requires.shape_value) ∙ c.in-BatchFirst.is in
-    c.check_batch_header.ensures ∙ as_type BatchFirst c.args.which c.args.self _ e refl
+    let e = sym (ap (λ (x : Shape). x.line) c.args.reading.row) ∙ c.in-BatchFirst.is in
+    c.check_batch_header.ensures ∙ as_type BatchFirst c.args.reading.which c.args.self _ e refl
 
 pub returns-in-Detail : goal.returns-in-Detail
 returns-in-Detail c =
-    let e = sym (ap (λ (x : Shape). x.line) c.requires.shape_value) ∙ c.in-Detail.is in
+    let e = sym (ap (λ (x : Shape). x.line) c.args.reading.row) ∙ c.in-Detail.is in
     c.check_detail.ensures ∙ rw e
 
 pub returns-in-BatchLast : goal.returns-in-BatchLast
 returns-in-BatchLast c =
-    let e = sym (ap (λ (x : Shape). x.line) c.requires.shape_value) ∙ c.in-BatchLast.is in
-    c.check_batch_trailer.ensures ∙ as_type BatchLast c.args.which c.args.self _ e refl
+    let e = sym (ap (λ (x : Shape). x.line) c.args.reading.row) ∙ c.in-BatchLast.is in
+    c.check_batch_trailer.ensures ∙ as_type BatchLast c.args.reading.which c.args.self _ e refl
 
 pub returns-in-FileLast : goal.returns-in-FileLast
 returns-in-FileLast c =
-    let e = sym (ap (λ (x : Shape). x.line) c.requires.shape_value) ∙ c.in-FileLast.is in
-    c.check_file_trailer.ensures ∙ as_type FileLast c.args.which c.args.self _ e refl
+    let e = sym (ap (λ (x : Shape). x.line) c.args.reading.row) ∙ c.in-FileLast.is in
+    c.check_file_trailer.ensures ∙ as_type FileLast c.args.reading.which c.args.self _ e refl
