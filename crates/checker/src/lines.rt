@@ -4,7 +4,7 @@ ghost use Rattle.answer.specs.Rules.{first_broken, answer_alone};
 ghost use Rattle.layout.specs.Records.{shape_of};
 ghost use Rattle.layout.specs.declared.shapes.LineType.TheVariants.{FileFirst, BatchFirst, Detail, BatchLast, FileLast};
 ghost use Rattle.checker.specs.Line.{bank, batch_number, rules_of_type, rules_as, line_is, record_in};
-ghost use Rattle.checker.specs.inner.Steps.{front_rules, Bounded};
+ghost use Rattle.checker.specs.inner.Steps.{front_rules, detail_head, Bounded};
 
 use super::house::check_house;
 use super::limits::{HEADER_BATCH, MOST_BATCHES, MOST_PAYMENTS, TRAILER_BATCH};
@@ -72,12 +72,13 @@ impl Checker {
         limit.and(bank.and(batch.and(fields)))
     }
 
-    fn check_detail(self, reading: Reading) -> Answer
+    // The rules of a detail up to its limit.
+    fn check_detail_head(self, reading: Reading) -> Answer
         requires bounded { Bounded self }
         requires detail { reading.shape.line ≡ Detail }
-        ensures { result ≡ first_broken (rules_of_type Detail reading.entry.which self reading.entry.rec.now) }
+        ensures { result ≡ first_broken (detail_head reading.entry.which self reading.entry.rec.now) }
     {
-        let Reading { rec, which, shape } = reading;
+        let Reading { rec, shape, .. } = reading;
         let bank = self.check_bank(rec);
         let batch = check_batch(self.closed.batches() + 1, rec);
         let place = &rec[places::NUMBER_FROM - 1..places::NUMBER_TO];
@@ -91,7 +92,16 @@ impl Checker {
         let segment = answer::test(numbers::SEGMENT, places::SEGMENT, fits);
         let few = self.current.payments() + payments_by(shape.amount) <= MOST_PAYMENTS;
         let limit = answer::test(numbers::TOO_MANY, places::SEGMENT, few);
-        bank.and(batch.and(number.and(segment.and(limit))))?;
+        bank.and(batch.and(number.and(segment.and(limit))))
+    }
+
+    fn check_detail(self, reading: Reading) -> Answer
+        requires bounded { Bounded self }
+        requires detail { reading.shape.line ≡ Detail }
+        ensures { result ≡ first_broken (rules_of_type Detail reading.entry.which self reading.entry.rec.now) }
+    {
+        let Reading { rec, which, .. } = reading;
+        self.check_detail_head(reading)?;
         walk::check_fields(rec, which, self.dir, BEHIND_SEGMENT, FIELDS)
     }
 
