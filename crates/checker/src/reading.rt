@@ -1,10 +1,10 @@
-// A line's record, as what it is read.
+// A line's record, and what it is read as.
 ghost use Rattle.std.specs.Prelude.{◌≡◌};
 ghost use Rattle.layout.specs.Records.{shape_of};
 
 use layout::{RECORD_BYTES, Record, Shape};
 
-// The bytes of a record, what they are read as, and the row of that.
+// The record's bytes, what they are read as, and the row of that.
 #[derive(Clone, Copy)]
 pub(crate) struct Reading<'a> {
     pub(crate) rec: &'a [u8; RECORD_BYTES],
