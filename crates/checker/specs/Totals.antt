@@ -11,8 +11,7 @@ use Rattle.layout.specs.declared.shapes.Shape.{Shape}
 use Rattle.layout.specs.declared.shapes.LineType.{LineType}
 use Rattle.layout.specs.declared.shapes.LineType.TheVariants.{FileFirst, BatchFirst, Detail, BatchLast, FileLast}
 use Rattle.checker.specs.declared.totals.Tally.{Tally}
-use Rattle.checker.specs.declared.totals.Live.{Live}
-use Rattle.checker.specs.declared.totals.Withdrawn.{Withdrawn}
+use Rattle.checker.specs.declared.totals.Payments.{Payments}
 use Rattle.checker.specs.declared.totals.Totals.{Totals}
 
 -- payments, and the sum of their amounts
@@ -22,7 +21,13 @@ tally payments cents = record { payments = payments; cents = record { 0 = cents 
 abbrev pub no_payments : Tally
 no_payments = tally 0 0
 
--- of the live ones, and of the withdrawn ones
+-- of the live ones, and of the withdrawn ones, each a type of its own
+abbrev pub Live : Type 0
+Live = Payments 0
+
+abbrev pub Withdrawn : Type 0
+Withdrawn = Payments 1
+
 abbrev pub live : Tally → Live
 live t = record { 0 = t }
 

@@ -8,6 +8,7 @@ mod limits;
 mod lines;
 mod moves;
 mod order;
+mod reading;
 mod reads;
 mod totals;
 
@@ -21,6 +22,7 @@ use answer::{Answer, LineNo, NO_LINE, Refusal, numbers};
 use layout::{Batch, Direction, Phase, places};
 pub use limits::{HEADER_BATCH, MOST_BATCHES, MOST_PAYMENTS, TRAILER_BATCH};
 pub use order::{is_ended, record_at, records_of};
+use reading::Reading;
 pub use totals::{Live, Totals, Withdrawn};
 
 pub const LINE_BYTES: usize = 242;
@@ -79,7 +81,7 @@ impl Checker {
     }
 
     // The state behind a line that is accepted; a refusal names no line yet. What the record is read
-    // as is asked once, and its row is handed on.
+    // as is asked once, and handed on with its row.
     fn behind(self, line: &[u8]) -> Result<Checker, Refusal>
         requires { Bounded self }
         ensures { result ≡ behind_by (first_broken (rules_of_line self line.now)) self (record_in line.now) }
@@ -88,9 +90,9 @@ impl Checker {
         let which = self
             .line_is(rec)
             .ok_or(refusal(numbers::TYPE, places::TYPE))?;
-        let shape = layout::shape_of(which);
-        self.check_as(which, shape, rec)?;
-        Ok(self.after(shape, rec))
+        let reading = Reading::of(which, rec);
+        self.check_as(reading)?;
+        Ok(self.after(reading))
     }
 
     // A line: a refused one leaves the state.

@@ -4,15 +4,16 @@ ghost use Rattle.answer.specs.Rules.{first_broken, answer_alone};
 ghost use Rattle.layout.specs.Records.{shape_of};
 ghost use Rattle.layout.specs.declared.shapes.LineType.TheVariants.{FileFirst, BatchFirst, Detail, BatchLast, FileLast};
 ghost use Rattle.checker.specs.Line.{bank, batch_number, rules_of_type, rules_as, line_is, record_in};
-ghost use Rattle.checker.specs.inner.Steps.{front_rules, Bounded};
+ghost use Rattle.checker.specs.inner.Steps.{front_rules, detail_head, Bounded};
 
 use super::house::check_house;
 use super::limits::{HEADER_BATCH, MOST_BATCHES, MOST_PAYMENTS, TRAILER_BATCH};
+use super::reading::Reading;
 use super::reads::{check_cents, check_number, check_records};
 use super::totals::payments_by;
 use super::{Checker, LINE_BYTES, order, refusal};
 use answer::{Answer, Refusal, numbers};
-use layout::{FIELDS, LineType, RECORD_BYTES, Record, Shape, names, places};
+use layout::{FIELDS, LineType, RECORD_BYTES, Record, names, places};
 
 // The index of the first field behind the type, and behind the segment.
 const BEHIND_TYPE: usize = 3;
@@ -71,11 +72,13 @@ impl Checker {
         limit.and(bank.and(batch.and(fields)))
     }
 
-    fn check_detail(self, which: Record, shape: Shape, rec: &[u8; RECORD_BYTES]) -> Answer
+    // The rules of a detail up to its limit.
+    fn check_detail_head(self, reading: Reading) -> Answer
         requires bounded { Bounded self }
-        requires shape_value { (shape ≡ shape_of which) × (shape.line ≡ Detail) }
-        ensures { result ≡ first_broken (rules_of_type Detail which self rec.now) }
+        requires detail { reading.shape.line ≡ Detail }
+        ensures { result ≡ first_broken (detail_head reading.entry.which self reading.entry.rec.now) }
     {
+        let Reading { rec, shape, .. } = reading;
         let bank = self.check_bank(rec);
         let batch = check_batch(self.closed.batches() + 1, rec);
         let place = &rec[places::NUMBER_FROM - 1..places::NUMBER_TO];
@@ -89,7 +92,16 @@ impl Checker {
         let segment = answer::test(numbers::SEGMENT, places::SEGMENT, fits);
         let few = self.current.payments() + payments_by(shape.amount) <= MOST_PAYMENTS;
         let limit = answer::test(numbers::TOO_MANY, places::SEGMENT, few);
-        bank.and(batch.and(number.and(segment.and(limit))))?;
+        bank.and(batch.and(number.and(segment.and(limit))))
+    }
+
+    fn check_detail(self, reading: Reading) -> Answer
+        requires bounded { Bounded self }
+        requires detail { reading.shape.line ≡ Detail }
+        ensures { result ≡ first_broken (rules_of_type Detail reading.entry.which self reading.entry.rec.now) }
+    {
+        let Reading { rec, which, .. } = reading;
+        self.check_detail_head(reading)?;
         walk::check_fields(rec, which, self.dir, BEHIND_SEGMENT, FIELDS)
     }
 
@@ -163,28 +175,26 @@ impl Checker {
     }
 
     // The rules behind the type, by the type of the line.
-    fn check_type(self, which: Record, shape: Shape, rec: &[u8; RECORD_BYTES]) -> Answer
-        requires bounded { Bounded self }
-        requires shape_value { shape ≡ shape_of which }
-        ensures { result ≡ first_broken (rules_of_type (shape_of which).line which self rec.now) }
+    fn check_type(self, reading: Reading) -> Answer
+        requires { Bounded self }
+        ensures { result ≡ first_broken (rules_of_type (shape_of reading.entry.which).line reading.entry.which self reading.entry.rec.now) }
     {
-        match shape.line {
-            LineType::FileFirst => self.check_file_header(rec),
-            LineType::BatchFirst => self.check_batch_header(rec),
-            LineType::Detail => self.check_detail(which, shape, rec),
-            LineType::BatchLast => self.check_batch_trailer(rec),
-            LineType::FileLast => self.check_file_trailer(rec),
+        match reading.shape.line {
+            LineType::FileFirst => self.check_file_header(reading.rec),
+            LineType::BatchFirst => self.check_batch_header(reading.rec),
+            LineType::Detail => self.check_detail(reading),
+            LineType::BatchLast => self.check_batch_trailer(reading.rec),
+            LineType::FileLast => self.check_file_trailer(reading.rec),
         }
     }
 
     // Those, and then what the house asks, of a line that is read as this record.
-    pub(crate) fn check_as(self, which: Record, shape: Shape, rec: &[u8; RECORD_BYTES]) -> Answer
-        requires bounded { Bounded self }
-        requires shape_value { shape ≡ shape_of which }
-        ensures { result ≡ first_broken (rules_as which self rec.now) }
+    pub(crate) fn check_as(self, reading: Reading) -> Answer
+        requires { Bounded self }
+        ensures { result ≡ first_broken (rules_as reading.entry.which self reading.entry.rec.now) }
     {
-        self.check_type(which, shape, rec)?;
-        check_house(shape.house, rec)
+        self.check_type(reading)?;
+        check_house(reading.shape.house, reading.rec)
     }
 
     // What a record is read as.

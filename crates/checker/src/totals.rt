@@ -1,6 +1,6 @@
 // What lines count: batches and records, and payments with the sum of their amounts, the live ones
 // and the withdrawn ones apart.
-ghost use Rattle.std.specs.Prelude.{◌≡◌, true, ◌+◌, ◌-◌, ◌≤◌, ◌<◌, ◌^◌, length, take, drop};
+ghost use Rattle.std.specs.Prelude.{◌≡◌, true, not, cond, ◌+◌, ◌-◌, ◌≤◌, ◌<◌, ◌^◌, length, take, drop};
 ghost use Rattle.answer.specs.Sums.{capped};
 ghost use Rattle.digits.specs.Numbers.{value};
 ghost use Rattle.layout.specs.Table.{record_bytes};
@@ -18,12 +18,13 @@ pub struct Tally {
     pub(crate) cents: Cents,
 }
 
-// Those of the live payments, and those of the withdrawn ones, each a type of its own.
+// Those of one sort of payments, the live ones or the withdrawn ones, each a type of its own.
 #[derive(Clone, Copy)]
-pub struct Live(pub(crate) Tally);
+pub struct Payments<const WITHDRAWN: bool>(pub(crate) Tally);
 
-#[derive(Clone, Copy)]
-pub struct Withdrawn(pub(crate) Tally);
+pub type Live = Payments<false>;
+
+pub type Withdrawn = Payments<true>;
 
 #[derive(Clone, Copy)]
 pub struct Totals {
@@ -46,63 +47,49 @@ pub(crate) fn amount(rec: &[u8; RECORD_BYTES], place: usize) -> Cents
     Cents(digits::value(&rec[place - 1..place - 1 + AMOUNT_DIGITS]))
 }
 
-impl Tally {
-    fn none() -> Tally
-        ensures { result ≡ no_payments }
+impl<const WITHDRAWN: bool> Payments<WITHDRAWN> {
+    // How many they are.
+    pub fn payments(self) -> u64
+        ensures { result ≡ self.entry.0.payments }
     {
-        Tally {
+        self.0.payments
+    }
+
+    // The sum of their amounts.
+    pub fn cents(self) -> Cents
+        ensures { result ≡ self.entry.0.cents }
+    {
+        self.0.cents
+    }
+
+    fn none() -> Payments<WITHDRAWN>
+        ensures { result.0 ≡ no_payments }
+    {
+        Payments(Tally {
             payments: 0,
             cents: Cents(0),
+        })
+    }
+
+    fn plus(self, more: Payments<WITHDRAWN>) -> Payments<WITHDRAWN>
+        requires { FitTally self.0 more.0 }
+        ensures { result.0 ≡ add_tally self.entry.0 more.entry.0 }
+    {
+        Payments(Tally {
+            payments: self.0.payments + more.0.payments,
+            cents: self.0.cents.plus(more.0.cents),
+        })
+    }
+
+    // All of these, if they are of this sort, or none.
+    fn of(tally: Tally, withdrawn: bool) -> Payments<WITHDRAWN>
+        ensures { result.0 ≡ only (cond WITHDRAWN withdrawn (not withdrawn)) tally }
+    {
+        if withdrawn == WITHDRAWN {
+            Payments(tally)
+        } else {
+            Payments::none()
         }
-    }
-
-    fn plus(self, more: Tally) -> Tally
-        requires { FitTally self more }
-        ensures { result ≡ add_tally self more }
-    {
-        Tally {
-            payments: self.payments + more.payments,
-            cents: self.cents.plus(more.cents),
-        }
-    }
-
-    // All of these, or none.
-    fn only(self, such: bool) -> Tally
-        ensures { result ≡ only such self }
-    {
-        if such { self } else { Tally::none() }
-    }
-}
-
-impl Live {
-    // How many they are.
-    pub fn payments(self) -> u64
-        ensures { result ≡ self.0.payments }
-    {
-        self.0.payments
-    }
-
-    // The sum of their amounts.
-    pub fn cents(self) -> Cents
-        ensures { result ≡ self.0.cents }
-    {
-        self.0.cents
-    }
-}
-
-impl Withdrawn {
-    // How many they are.
-    pub fn payments(self) -> u64
-        ensures { result ≡ self.0.payments }
-    {
-        self.0.payments
-    }
-
-    // The sum of their amounts.
-    pub fn cents(self) -> Cents
-        ensures { result ≡ self.0.cents }
-    {
-        self.0.cents
     }
 }
 
@@ -141,16 +128,15 @@ impl Totals {
         ensures { result ≡ capped (payment_count self) }
     {
         self.live
-            .0
-            .payments
-            .saturating_add(self.withdrawn.0.payments)
+            .payments()
+            .saturating_add(self.withdrawn.payments())
     }
 
     // The sum of all their amounts, capped like that.
     pub fn cents(self) -> Cents
         ensures { result.0 ≡ capped (cent_sum self) }
     {
-        self.live.0.cents.plus(self.withdrawn.0.cents)
+        self.live.cents().plus(self.withdrawn.cents())
     }
 
     pub(crate) fn none() -> Totals
@@ -159,8 +145,8 @@ impl Totals {
         Totals {
             batches: 0,
             records: RecordCount(0),
-            live: Live(Tally::none()),
-            withdrawn: Withdrawn(Tally::none()),
+            live: Live::none(),
+            withdrawn: Withdrawn::none(),
         }
     }
 
@@ -171,8 +157,8 @@ impl Totals {
         Totals {
             batches: self.batches + more.batches,
             records: self.records.plus(more.records),
-            live: Live(self.live.0.plus(more.live.0)),
-            withdrawn: Withdrawn(self.withdrawn.0.plus(more.withdrawn.0)),
+            live: self.live.plus(more.live),
+            withdrawn: self.withdrawn.plus(more.withdrawn),
         }
     }
 }
@@ -230,7 +216,7 @@ pub(crate) fn counted(shape: Shape, rec: &[u8; RECORD_BYTES]) -> Totals
     Totals {
         batches: batches_by(shape.line),
         records: RecordCount(1),
-        live: Live(tally.only(!withdrawn)),
-        withdrawn: Withdrawn(tally.only(withdrawn)),
+        live: Live::of(tally, withdrawn),
+        withdrawn: Withdrawn::of(tally, withdrawn),
     }
 }

@@ -14,11 +14,9 @@ use Rattle.layout.specs.declared.Record.{Record}
 use Rattle.layout.specs.declared.Record.TheVariants.{FileHeader, BatchHeader, SegmentZ, BatchTrailer, FileTrailer}
 use Rattle.layout.specs.declared.pairs.Batch.{Batch}
 use Rattle.checker.specs.Order.{payment}
-use Rattle.checker.specs.Totals.{no_payments, live, withdrawn, totals, none, add_live, add_withdrawn, add, live_of, withdrawn_of, cents_of, batch_count, cent_sum}
+use Rattle.checker.specs.Totals.{Live, Withdrawn, no_payments, live, withdrawn, totals, none, add_live, add_withdrawn, add, live_of, withdrawn_of, cents_of, batch_count, cent_sum}
 use Rattle.checker.specs.Line.{record_in, house_rules, most_batches, most_payments, header_batch, trailer_batch, line_from}
 use Rattle.checker.specs.Machine.{direction_of}
-use Rattle.checker.specs.declared.totals.Live.{Live}
-use Rattle.checker.specs.declared.totals.Withdrawn.{Withdrawn}
 use Rattle.checker.specs.declared.totals.Totals.{Totals}
 
 -- ---- a line

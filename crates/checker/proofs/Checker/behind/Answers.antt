@@ -1,6 +1,5 @@
 -- `checker::Checker::behind` meets its contract. Assumes nothing.
 use Rattle.std.proofs.Common.{sym, ◌∙◌}
-use Rattle.checker.proofs.laws.Bounds.{room}
 use Rattle.checker.proofs.Front.{front_refused, type_refused, record_refused, accepted}
 use Rattle.checker.proofs.Checker.behind.Goals as goal
 
@@ -14,14 +13,13 @@ returns-in_err-which c =
 
 pub returns-in_err-check_as : goal.returns-in_err-check_as
 returns-in_err-check_as c =
+    let read = c.of-reading.ensures in
     record_refused _ _ c.check_front.ensures.answer c.in_ok-rec.was (rw c.in_ok-rec.ensures.record at (sym c.line_is.ensures ∙ c.in_ok-which.ensures.ok_part)) _
-    (rw c.in_ok-rec.ensures.record at c.check_as.ensures) c.in_err-check_as.was c.from_residual-in_err-check_as.ensures
-
-pub after-requires : goal.after-requires
-after-requires c = rw c.shape_of-shape.ensures (room c.requires c.in_ok-which.which c.in_ok-rec.rec.now)
+    (rw (read.record, read.bytes, c.in_ok-rec.ensures.record) at c.check_as.ensures) c.in_err-check_as.was c.from_residual-in_err-check_as.ensures
 
 pub returns : goal.returns
 returns c =
-    rw (c.after.ensures, c.shape_of-shape.ensures, c.in_ok-rec.ensures.record)
+    let read = c.of-reading.ensures in
+    rw (c.after.ensures, read.record, read.bytes, c.in_ok-rec.ensures.record)
     (accepted _ _ c.check_front.ensures.answer c.in_ok-rec.was (rw c.in_ok-rec.ensures.record at (sym c.line_is.ensures ∙ c.in_ok-which.ensures.ok_part))
-    (rw c.in_ok-rec.ensures.record at c.check_as.ensures) c.in_ok-check_as.was)
+    (rw (read.record, read.bytes, c.in_ok-rec.ensures.record) at c.check_as.ensures) c.in_ok-check_as.was)

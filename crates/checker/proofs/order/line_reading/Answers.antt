@@ -4,8 +4,5 @@ use borrow.Author.Tests.{ne_eqb}
 use Rattle.checker.proofs.Edges.{no_detail}
 use Rattle.checker.proofs.order.line_reading.Goals as goal
 
-pub returns-then-kind-eq-DETAIL : goal.returns-then-kind-eq-DETAIL
-returns-then-kind-eq-DETAIL c = rw c.if-kind-eq-DETAIL.true c.detail_reading.ensures
-
 pub returns-else-kind-eq-DETAIL : goal.returns-else-kind-eq-DETAIL
 returns-else-kind-eq-DETAIL c = let a = c.args in c.end_reading.ensures ∙ no_detail a.phase a.dir a.batch a.kind a.segment (ne_eqb _ _ c.if-kind-eq-DETAIL.false)

@@ -3,8 +3,5 @@ use mathlib.Core.Path.{refl, ◌∙◌}
 use Rattle.answer.proofs.laws.Order.{here}
 use Rattle.checker.proofs.reads.check_number.Goals as goal
 
-pub returns-in-Some : goal.returns-in-Some
-returns-in-Some c = rw (← c.number_of.ensures, c.in-Some.is) c.test.ensures
-
 pub returns-in-None : goal.returns-in-None
 returns-in-None c = rw (← c.number_of.ensures, c.in-None.is) (c.refused.ensures ∙ here _ _ _ _ refl)
