@@ -136,7 +136,7 @@ impl Writer {
         let bytes = LINE_BYTES * count;
         let last = check_sum(self.checker, p).and(self.room(bytes, out));
         answer::on_line(last, self.checker.next_line())?;
-        put_payment(count, tried.made, &mut out[self.cursor..]);
+        put_payment(&tried.made[..count], &mut out[self.cursor..]);
         Ok(Writer {
             checker: tried.checker,
             cursor: self.cursor + bytes,

@@ -8,11 +8,11 @@ use Rattle.writer.proofs.Lent.{whole, lent}
 use Rattle.writer.specs.Given.{records_in}
 use Rattle.writer.specs.Refusals.{sum_rule, size}
 use Rattle.writer.specs.inner.Steps.{lines_with}
-use lib.ListN.{length, length-drop}
+use lib.ListN.{length, length-drop, length-take}
 use lib.ListN.{take, drop}
 use mathlib.Core.List.{List, ◌++◌, flatten}
 use mathlib.Core.List.{[], ◌∷◌}
-use mathlib.Core.Path.{sym, ap, ◌∙◌}
+use mathlib.Core.Path.{◌≡◌, sym, ap₂, ◌∙◌}
 use native.Mathlib.Omega.{arith}
 use Rattle.writer.proofs.Writer.write_payment.Goals as goal
 
@@ -52,10 +52,10 @@ put_payment-requires c =
     let told = sym e ∙ c.in_ok-on_line.was in
     let fits = has_room _ (sum_rule c.args.self.checker c.args.p ∷ []) _ _ _ told in
     let count = c.records-count.ensures in
-    let made = c.in_ok-tried.ensures.makes in record {
-      count_le_most_details = (count.1, made.places);
-      all_right = rw count.0 made.right;
-      count_in_bounds = rw (count.0, whole a.self.cursor a.out.now (omega arith), length-drop) (omega arith);
+    let tried = c.in_ok-tried in
+    record {
+      all_right = rw count.0 tried.ensures.makes.right;
+      room = rw (whole a.self.cursor a.out.now (omega arith), length-drop) (omega (arith, length-take c.records-count.result tried.tried.made));
     }
 
 pub overflow_add-result : goal.overflow_add-result
@@ -79,8 +79,10 @@ returns c =
     (ahead c.and-last.ensures _ _ c.check_sum.ensures (rw c.records-count.ensures.0 at c.room.ensures)) in
     let told = sym e ∙ c.in_ok-on_line.was in
     let fits = has_room _ (sum_rule c.args.self.checker c.args.p ∷ []) _ _ _ told in
-    let count = c.records-count.ensures.0 in
+    let count = c.records-count.ensures in
     let made = c.in_ok-tried.ensures.makes in
-    accepts _ _ _ c.in_ok-turn.was (sym c.in_ok-on_line.was ∙ e) made.moved (rw count)
-    (lent a.self.cursor out (omega arith) (size n) (flatten (lines_with (take n c.in_ok-tried.tried.made))) _ (rw count at c.put_payment.ensures)
-    ∙ ap (λ (l : List (List ℕ)). take a.self.cursor out ++ (flatten l ++ drop (a.self.cursor + size n) out)) made.made)
+    let put = take n c.in_ok-tried.tried.made in
+    let long : length put ≡ n = omega (arith, length-take n c.in_ok-tried.tried.made, made.places) in
+    accepts _ _ _ c.in_ok-turn.was (sym c.in_ok-on_line.was ∙ e) made.moved (rw count.0)
+    (lent a.self.cursor out (omega arith) (size (length put)) (flatten (lines_with put)) _ (rw count.0 at c.put_payment.ensures)
+    ∙ ap₂ (λ (l : List (List ℕ)) (k : ℕ). take a.self.cursor out ++ (flatten l ++ drop (a.self.cursor + size k) out)) made.made long)
