@@ -1,6 +1,6 @@
 -- The checker counts what an accepted call puts in. Assumes nothing.
 use Rattle.std.specs.Prelude.{◌≡◌, refl, true, List, [], ◌∷◌, ℕ, suc, ◌+◌, ◌-◌, ◌<◌, eqb, length, drop, Ok, Some}
-use Rattle.std.proofs.Common.{sym, ap, ap₂, subst, ◌∙◌, arith, ltb-true, le-leb, lit≤}
+use Rattle.std.proofs.Common.{sym, ap, ap₂, ◌∙◌, arith, ltb-true, le-leb, lit≤}
 use Rattle.answer.specs.Limits.{file_cents}
 use Rattle.answer.specs.Rules.{AllKept}
 use Rattle.digits.specs.Digits.{place}
@@ -20,7 +20,7 @@ use Rattle.checker.specs.Totals.{tally, bare, none, add, cent_sum, withdrawal, w
 use Rattle.checker.proofs.laws.Sums.{both_parts, InAll, same_totals, add_none, add_assoc, counted, next_counts}
 use Rattle.checker.specs.declared.totals.Totals.{Totals}
 use Rattle.checker.specs.declared.Checker.{Checker}
-use Rattle.writer.specs.Given.{Call, open_file, open_batch, pay, close_batch, close_file, first_in, later_in, records_in, records_of, amount_of, amount_in, withdraws_as, is_withdrawn, one_payment}
+use Rattle.writer.specs.Given.{Call, open_file, open_batch, pay, close_batch, close_file, first_in, later_in, records_of, amount_of, amount_in, withdraws_as, is_withdrawn, one_payment}
 use Rattle.filling.specs.Filling.{bytes_of}
 use Rattle.writer.specs.Refusals.{expected_in_payment, expected_in, cents_so_far, sum_rules}
 use Rattle.writer.specs.inner.Steps.{expected_at}
