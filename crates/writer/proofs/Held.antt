@@ -1,8 +1,8 @@
 -- A state that is held, as facts; and the answer before any record. Assumes nothing.
 use mathlib.Core.Path.{◌≡◌, refl}
 use mathlib.Core.Bool.{Bool, true, false, ◌||◌}
-use Prim.Native.Nat.{ℕ, ◌+◌, ◌-◌, ◌≤◌, ◌<◌}
-use native.Mathlib.Decide.{dec_lt, dec_le}
+use Prim.Native.Nat.{ℕ, ◌+◌, ◌<◌}
+use native.Mathlib.Decide.{dec_lt}
 use native.Mathlib.Omega.{arith}
 use borrow.Author.Tests.{le-leb, lt-leb, lt-ltb, le-ltb}
 use lib.Dec.{leb, ltb}
@@ -27,11 +27,3 @@ below n k = go (dec_lt n k)
     go : Dec (n < k) → ltb n k ≡ leb (n + 1) k
     go (yes h) = rw (lt-ltb n k h, le-leb (n + 1) k (omega arith))
     go (no h) = rw (le-ltb n k (omega arith), lt-leb (n + 1) k (omega arith))
-
--- room behind a cursor, without the sum
-pub room_behind : (at n len : ℕ) → at ≤ len → leb n (len - at) ≡ leb (at + n) len
-room_behind at n len b = go (dec_le (at + n) len)
-  where
-    go : Dec (at + n ≤ len) → leb n (len - at) ≡ leb (at + n) len
-    go (yes h) = rw (le-leb n (len - at) (omega arith), le-leb (at + n) len h)
-    go (no h) = rw (lt-leb n (len - at) (omega arith), lt-leb (at + n) len (omega arith))

@@ -82,7 +82,7 @@ module _ (made : List Made) (k : ℕ) (m : Made) {out part : List ℕ} (o : Over
   pub at_most : k * 242 ≤ length part
   at_most = omega (arith, o.same)
 
-  pub line_room : 242 ≤ length (take (length part - k * 242) (drop (k * 242) part))
+  line_room : 242 ≤ length (take (length part - k * 242) (drop (k * 242) part))
   line_room = rw (whole (k * 242) part at_most, length-drop) (omega (arith, o.same))
 
   pub over_next : (new : List ℕ) → new ≡ line ++ drop 242 (take (length part - k * 242) (drop (k * 242) part))

@@ -158,11 +158,12 @@ module _ (expected : Bool) (s : Checker) (g : Fields) (whole : Whole g) {m : Mad
           }
 
 -- a right record is put where there is room
-pub put_right : (m : Made) {out last : List ℕ} {a : Answer} → length m.fields.text ≡ record_bytes → m.answer ≡ Ok tt → record_bytes ≤ length out
-    → Puts m out a last → last ≡ record_of m.fields.which m.fields ++ drop record_bytes out
-put_right m {out} {last} {a} full right roomy p =
-    let ok : a ≡ (Ok tt) = p.answered ∙ rw right (sym (past 50 0 _ [] (Ok tt) (le-leb _ _ roomy) done)) in
-    rw (ok, record_length m.fields.which m.fields full) at p.memory
+module _ (m : Made) {out last : List ℕ} {a : Answer} (right : m.answer ≡ Ok tt) (roomy : record_bytes ≤ length out) (p : Puts m out a last) where
+  pub put_ok : a ≡ Ok tt
+  put_ok = p.answered ∙ rw right (sym (past 50 0 _ [] (Ok tt) (le-leb _ _ roomy) done))
+
+  pub put_right : length m.fields.text ≡ record_bytes → last ≡ record_of m.fields.which m.fields ++ drop record_bytes out
+  put_right full = rw (put_ok, record_length m.fields.which m.fields full) at p.memory
 
 -- the line of a record that was tried
 pub line_made : (s : Checker) (g : Fields) {m : Made} → m ≡ made_of g.which s.dir (filled g.which s g) → line_with m ≡ line_from (bytes_of s g)
@@ -258,15 +259,18 @@ module _ {s t : Checker} {p : Payment} {made : List Made} {k : ℕ} (h : Going s
         answered = sym (ap (λ (gs : List Fields). first_broken (all_given (drop k (expected_in_payment s)) t gs)) none) ∙ h.answers;
         makes = record {
           moved = sym (ap (behind_all t) none) ∙ h.moves;
-          right = rw (← all) h.right;
-          made = rw (← all) (sym (append-nil (lines_with (take k made))) ∙ ap (λ (gs : List Fields). lines_with (take k made) ++ lines_for t gs) (sym none) ∙ h.lines);
+          right = subst (λ (n : ℕ). AllRight (take n made)) all h.right;
+          made =
+              ap (λ (n : ℕ). lines_with (take n made)) (sym all)
+              ∙ sym (append-nil (lines_with (take k made)))
+              ∙ ap (λ (gs : List Fields). lines_with (take k made) ++ lines_for t gs) (sym none)
+              ∙ h.lines;
           places = h.long;
         };
       }
 
 -- the one at a position is right
-pub right_at : (ms : List Made) (n k : ℕ) (m : Made) → AllRight (take n ms) → k < n → k < length ms → (get_or ms k m).answer ≡ Ok tt
-right_at [] n k m r h in_all = absurd (omega arith)
-right_at (x ∷ ms) zero k m r h in_all = absurd (omega arith)
-right_at (x ∷ ms) (suc n) zero m (one_more e on) h in_all = e
-right_at (x ∷ ms) (suc n) (suc k) m (one_more e on) h in_all = right_at ms n k m on (omega arith) (omega arith)
+pub right_at : (ms : List Made) (k : ℕ) (m : Made) → AllRight ms → k < length ms → (get_or ms k m).answer ≡ Ok tt
+right_at [] k m r there = absurd (omega arith)
+right_at (x ∷ ms) zero m (one_more e on) there = e
+right_at (x ∷ ms) (suc k) m (one_more e on) there = right_at ms k m on (omega arith)

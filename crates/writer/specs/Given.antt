@@ -1,45 +1,42 @@
 -- What the writer's calls are given. Assumes nothing.
-use Rattle.std.specs.Prelude.{Bool, not, List, [], ◌∷◌, ℕ, eqb, take}
+use Rattle.std.specs.Prelude.{Bool, not, List, [], ◌∷◌, ℕ, eqb}
 use Rattle.layout.specs.Field.{Field}
 use Rattle.layout.specs.Records.{amounts_of}
 use Rattle.layout.specs.Table.{movement_field}
 use Rattle.layout.specs.Names.{index_of}
 use Rattle.layout.specs.declared.Record.{Record}
-use Rattle.layout.specs.declared.Record.TheVariants.{FileHeader, BatchHeader, SegmentZ, BatchTrailer, FileTrailer, SegmentO}
-use Rattle.fields.specs.Values.{no_fields, taken_as, nth, or_zero}
+use Rattle.layout.specs.declared.Record.TheVariants.{FileHeader, BatchHeader, BatchTrailer, FileTrailer, SegmentO}
+use Rattle.fields.specs.Values.{taken_as, nth, or_zero}
 use Rattle.fields.specs.declared.Fields.{Fields}
 use Rattle.checker.specs.Totals.{tally, live, withdrawn, totals, withdrawal, only}
 use Rattle.checker.specs.declared.totals.Totals.{Totals}
-use Rattle.writer.specs.declared.given.Count.{Count}
-use Rattle.writer.specs.declared.given.Count.TheVariants.{Two, Three, One}
 use Rattle.writer.specs.declared.given.Payment.{Payment}
+use Rattle.writer.specs.declared.given.Payment.TheVariants.{One, Two, Three}
 
 -- one record, an O; two records; or three
 abbrev pub one : Fields → Payment
-one a = record { first = a; second = no_fields SegmentZ; third = no_fields SegmentZ; count = One }
+one a = One a
 
 abbrev pub two : Fields → Fields → Payment
-two a b = record { first = a; second = b; third = no_fields SegmentZ; count = Two }
+two a b = Two a b
 
 abbrev pub three : Fields → Fields → Fields → Payment
-three a b c = record { first = a; second = b; third = c; count = Three }
-
-abbrev pub many : Count → ℕ
-many Two = 2
-many Three = 3
-many One = 1
+three a b c = Three a b c
 
 -- the first; alone it is an O, and fields of another record are taken as spoiled
-abbrev pub first_as : Count → Fields → Fields
-first_as Two v = v
-first_as Three v = v
-first_as One v = taken_as SegmentO v
-
 abbrev pub first_in : Payment → Fields
-first_in p = first_as p.count p.first
+first_in (One a) = taken_as SegmentO a
+first_in (Two a b) = a
+first_in (Three a b c) = a
+
+-- those behind it
+abbrev pub later_in : Payment → List Fields
+later_in (One a) = []
+later_in (Two a b) = b ∷ []
+later_in (Three a b c) = b ∷ c ∷ []
 
 abbrev pub records_in : Payment → List Fields
-records_in p = take (many p.count) (first_in p ∷ p.second ∷ p.third ∷ [])
+records_in p = first_in p ∷ later_in p
 
 pub data Call : Type 0 where
   open_file : Fields → Call

@@ -11,22 +11,12 @@ use layout::Record;
 // The most records of a payment: two and a Z.
 pub(crate) const MOST_RECORDS: usize = 3;
 
-// How many records there are.
+// One record, two or three: no other count of them can be written down.
 #[derive(Clone, Copy)]
-pub(crate) enum Count {
-    Two,
-    Three,
-    One,
-}
-
-// No other count of records can be written down, and no single record that is no O. A place that is
-// not used holds none.
-#[derive(Clone, Copy)]
-pub struct Payment {
-    pub(crate) first: Fields,
-    pub(crate) second: Fields,
-    pub(crate) third: Fields,
-    pub(crate) count: Count,
+pub enum Payment {
+    One(Fields),
+    Two(Fields, Fields),
+    Three(Fields, Fields, Fields),
 }
 
 impl Payment {
@@ -34,48 +24,31 @@ impl Payment {
     pub fn of_one(first: Fields) -> Payment
         ensures { result ≡ one first }
     {
-        let none = Fields::none(Record::SegmentZ);
-        Payment {
-            first,
-            second: none,
-            third: none,
-            count: Count::One,
-        }
+        Payment::One(first)
     }
 
     // A payment of two records.
     pub fn of_two(first: Fields, second: Fields) -> Payment
         ensures { result ≡ two first second }
     {
-        let third = Fields::none(Record::SegmentZ);
-        Payment {
-            first,
-            second,
-            third,
-            count: Count::Two,
-        }
+        Payment::Two(first, second)
     }
 
     // A payment of three records: two and a Z, or whatever is given in their places.
     pub fn of_three(first: Fields, second: Fields, third: Fields) -> Payment
         ensures { result ≡ three first second third }
     {
-        Payment {
-            first,
-            second,
-            third,
-            count: Count::Three,
-        }
+        Payment::Three(first, second, third)
     }
 
     // How many records it has.
     pub(crate) fn records(self) -> usize
         ensures { (result ≡ length (records_in self)) × (result ≤ most_details) }
     {
-        match self.count {
-            Count::Two => 2,
-            Count::Three => 3,
-            Count::One => 1,
+        match self {
+            Payment::One(_) => 1,
+            Payment::Two(_, _) => 2,
+            Payment::Three(_, _, _) => 3,
         }
     }
 
@@ -83,20 +56,20 @@ impl Payment {
     pub(crate) fn first_record(self) -> Fields
         ensures { result ≡ first_in self }
     {
-        match self.count {
-            Count::Two | Count::Three => self.first,
-            Count::One => self.first.taken_as(Record::SegmentO),
+        match self {
+            Payment::One(first) => first.taken_as(Record::SegmentO),
+            Payment::Two(first, _) | Payment::Three(first, _, _) => first,
         }
     }
 
-    // The record at a position, from 0 on.
+    // The record at a position, from 0 on; at any other, the first.
     pub(crate) fn record_at(self, position: usize) -> Fields
         ensures { result ≡ nth_in position self }
     {
-        match position {
-            0 => self.first_record(),
-            1 => self.second,
-            _ => self.third,
+        match (self, position) {
+            (Payment::Two(_, second) | Payment::Three(_, second, _), 1) => second,
+            (Payment::Three(_, _, third), 2) => third,
+            _ => self.first_record(),
         }
     }
 }

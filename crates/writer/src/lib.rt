@@ -12,7 +12,7 @@ ghost use Rattle.answer.specs.Rules.{first_broken};
 ghost use Rattle.answer.specs.Output.{room};
 ghost use Rattle.writer.specs.Given.{records_in, open_file, open_batch, pay, close_batch, close_file};
 ghost use Rattle.writer.specs.Outcome.{new_writer, Wrote};
-ghost use Rattle.writer.specs.inner.Steps.{handed_back, WroteIn, one_rules, payment_rules, MayTry, MayPay};
+ghost use Rattle.writer.specs.inner.Steps.{turn_of, handed_back, WroteIn, one_rules, payment_rules, MayTry, MayPay};
 
 use answer::{Answer, RecordCount, Refusal, numbers};
 use checker::{Checker, LINE_BYTES};
@@ -91,12 +91,18 @@ impl Writer {
         }
     }
 
-    // A call that writes one record, a header or a trailer, behind its turn.
-    fn write_one(self, turn: Answer, v: Fields, out: &mut [u8]) -> Result<Writer, Refusal>
-        requires { turn ≡ Ok tt → MayTry true v.which self.checker }
-        ensures { WroteIn turn (one_rules self v out.old) self (v ∷ []) out.old out.new (handed_back self result) }
+    // A call that writes one record, a header or a trailer: its turn, the record, then room.
+    fn write_one(
+        self,
+        may: bool,
+        limits: Answer,
+        v: Fields,
+        out: &mut [u8],
+    ) -> Result<Writer, Refusal>
+        requires { turn_of self.checker may limits ≡ Ok tt → MayTry true v.which self.checker }
+        ensures { WroteIn (turn_of self.checker may limits) (one_rules self v out.old) self (v ∷ []) out.old out.new (handed_back self result) }
     {
-        turn?;
+        check_turn(self.checker, may, limits)?;
         let tried = try_record(self.checker, true, v)?;
         answer::on_line(self.room(LINE_BYTES, out), self.checker.next_line())?;
         put_line(tried.made, &mut out[self.cursor..]);
@@ -111,8 +117,7 @@ impl Writer {
         ensures { Wrote self (open_file v) out.old out.new result }
     {
         let may = turns_at(self.checker.phase()).header;
-        let turn = check_turn(self.checker, may, Ok(()));
-        self.hand_back(self.write_one(turn, v.taken_as(Record::FileHeader), out))
+        self.hand_back(self.write_one(may, Ok(()), v.taken_as(Record::FileHeader), out))
     }
 
     // A batch header, whose service and form give the batch its kind.
@@ -121,22 +126,28 @@ impl Writer {
     {
         let may = turns_at(self.checker.phase()).batch;
         let given = v.taken_as(Record::BatchHeader);
-        let turn = check_turn(self.checker, may, batch_limits(self.checker, given));
-        self.hand_back(self.write_one(turn, given, out))
+        let limits = batch_limits(self.checker, given);
+        self.hand_back(self.write_one(may, limits, given, out))
     }
 
-    // A payment, behind its turn: its records, then the sum of all payments so far, then room.
-    fn write_payment(self, turn: Answer, p: Payment, out: &mut [u8]) -> Result<Writer, Refusal>
-        requires { turn ≡ Ok tt → MayPay self.checker }
-        ensures { WroteIn turn (payment_rules self p out.old) self (records_in p) out.old out.new (handed_back self result) }
+    // A payment: its turn, its records, then the sum of all payments so far, then room.
+    fn write_payment(
+        self,
+        may: bool,
+        limits: Answer,
+        p: Payment,
+        out: &mut [u8],
+    ) -> Result<Writer, Refusal>
+        requires { turn_of self.checker may limits ≡ Ok tt → MayPay self.checker }
+        ensures { WroteIn (turn_of self.checker may limits) (payment_rules self p out.old) self (records_in p) out.old out.new (handed_back self result) }
     {
-        turn?;
+        check_turn(self.checker, may, limits)?;
         let tried = try_payment(self.checker, p)?;
         let count = p.records();
         let bytes = LINE_BYTES * count;
         let last = check_sum(self.checker, p).and(self.room(bytes, out));
         answer::on_line(last, self.checker.next_line())?;
-        put_payment(count, tried.made, &mut out[self.cursor..]);
+        put_payment(&tried.made[..count], &mut out[self.cursor..]);
         Ok(Writer {
             checker: tried.checker,
             cursor: self.cursor + bytes,
@@ -149,8 +160,7 @@ impl Writer {
     {
         let may = turns_at(self.checker.phase()).payment;
         let limits = payment_limits(self.checker, RecordCount(p.records() as u64));
-        let turn = check_turn(self.checker, may, limits);
-        self.hand_back(self.write_payment(turn, p, out))
+        self.hand_back(self.write_payment(may, limits, p, out))
     }
 
     // The batch trailer: the writer counts and sums, the caller gives the other fields.
@@ -158,8 +168,7 @@ impl Writer {
         ensures { Wrote self (close_batch v) out.old out.new result }
     {
         let may = turns_at(self.checker.phase()).trailer;
-        let turn = check_turn(self.checker, may, Ok(()));
-        self.hand_back(self.write_one(turn, v.taken_as(Record::BatchTrailer), out))
+        self.hand_back(self.write_one(may, Ok(()), v.taken_as(Record::BatchTrailer), out))
     }
 
     // The file trailer. Behind it every call is out of turn.
@@ -167,7 +176,6 @@ impl Writer {
         ensures { Wrote self (close_file v) out.old out.new result }
     {
         let may = turns_at(self.checker.phase()).end;
-        let turn = check_turn(self.checker, may, Ok(()));
-        self.hand_back(self.write_one(turn, v.taken_as(Record::FileTrailer), out))
+        self.hand_back(self.write_one(may, Ok(()), v.taken_as(Record::FileTrailer), out))
     }
 }

@@ -1,16 +1,16 @@
 // A payment's records, one behind the other.
-ghost use Rattle.std.specs.Prelude.{◌≡◌, true, ◌≤◌, ◌<◌, length, take, drop};
+ghost use Rattle.std.specs.Prelude.{◌≡◌, true, ◌≤◌, length, drop};
 ghost use mathlib.Core.List.{◌∷◌, [], ◌++◌, flatten};
 ghost use Rattle.answer.specs.Rules.{first_broken};
 ghost use Rattle.layout.specs.Records.{is_one_of};
 ghost use Rattle.fields.specs.Values.{or_zero, number_at};
-ghost use Rattle.checker.specs.Machine.{sound, most_details};
+ghost use Rattle.checker.specs.Machine.{sound};
 ghost use Rattle.writer.specs.Given.{amount_of};
 ghost use Rattle.writer.specs.Refusals.{z_in, sum_rule, size};
-ghost use Rattle.writer.specs.inner.Steps.{lines_with, nth_in, expected_at, MayTry, Tries, AllRight, TriesPayment, MayPay};
+ghost use Rattle.writer.specs.inner.Steps.{lines_with, expected_at, AllRight, TriesPayment, MayPay};
 
 use super::given::{MOST_RECORDS, Payment};
-use super::records::{Tried, put_line, try_record};
+use super::records::{put_line, try_record};
 use answer::{Answer, Cents, Refusal, numbers};
 use checker::{Checker, LINE_BYTES};
 use fields::{Fields, Made};
@@ -65,22 +65,6 @@ fn amount_of(v: Fields) -> Cents
     }
 }
 
-// The record at a position of a payment, in a state.
-fn try_at(
-    m: Checker,
-    p: Payment,
-    dir: Direction,
-    batch: Batch,
-    position: usize,
-) -> Result<Tried, Refusal>
-    requires position_lt_most_details { position < most_details }
-    requires may_try { MayTry (expected_at position dir batch (nth_in position p).which) (nth_in position p).which m }
-    ensures { Tries (expected_at position dir batch (nth_in position p).which) m (nth_in position p) result }
-{
-    let v = p.record_at(position);
-    try_record(m, is_expected(v.which, dir, batch, position as u8), v)
-}
-
 // All records of a payment, up to the first that is refused. Nothing is written yet.
 pub(crate) fn try_payment(m: Checker, p: Payment) -> Result<TriedPayment, Refusal>
     requires { MayPay m }
@@ -91,22 +75,23 @@ pub(crate) fn try_payment(m: Checker, p: Payment) -> Result<TriedPayment, Refusa
     let mut made = [Made::none(); MOST_RECORDS];
     let mut checker = m;
     for position in 0..p.records() {
-        let tried = try_at(checker, p, dir, batch, position)?;
+        let v = p.record_at(position);
+        let expected = is_expected(v.which, dir, batch, position as u8);
+        let tried = try_record(checker, expected, v)?;
         made[position] = tried.made;
         checker = tried.checker;
     }
     Ok(TriedPayment { checker, made })
 }
 
-// The lines of so many records, each over its part of this part of the output.
-pub(crate) fn put_payment(count: usize, made: [Made; MOST_RECORDS], part: &mut [u8])
-    requires count_le_most_details { (count ≤ most_details) × (length made ≡ most_details) }
-    requires all_right { AllRight (take count made) }
-    requires count_in_bounds { size count ≤ length part.old }
-    ensures { part.new ≡ flatten (lines_with (take count made)) ++ drop (size count) part.old }
+// The lines of records, each over its part of this part of the output.
+pub(crate) fn put_payment(made: &[Made], part: &mut [u8])
+    requires all_right { AllRight made.now }
+    requires room { size (length made.now) ≤ length part.old }
+    ensures { part.new ≡ flatten (lines_with made.now) ++ drop (size (length made.now)) part.old }
 {
-    for k in 0..count {
-        put_line(made[k], &mut part[k * LINE_BYTES..]);
+    for (k, record) in made.iter().enumerate() {
+        put_line(*record, &mut part[k * LINE_BYTES..]);
     }
 }
 

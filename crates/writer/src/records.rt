@@ -61,7 +61,8 @@ pub(crate) fn put_line(made: Made, part: &mut [u8])
     requires line_bytes_in_bounds { line_bytes ≤ length part.old }
     ensures { part.new ≡ line_with made ++ drop line_bytes part.old }
 {
-    let _ = made.put(part);
+    // A record that is right is put wherever there is room.
+    made.put(part).unwrap();
     part[places::CR - 1] = b'\r';
     part[places::LF - 1] = b'\n';
 }

@@ -1,6 +1,6 @@
 -- The checker counts what an accepted call puts in. Assumes nothing.
 use Rattle.std.specs.Prelude.{◌≡◌, refl, true, List, [], ◌∷◌, ℕ, suc, ◌+◌, ◌-◌, ◌<◌, eqb, length, drop, Ok, Some}
-use Rattle.std.proofs.Common.{sym, ap, ap₂, subst, ◌∙◌, arith, ltb-true, le-leb, lit≤}
+use Rattle.std.proofs.Common.{sym, ap, ap₂, ◌∙◌, arith, ltb-true, le-leb, lit≤}
 use Rattle.answer.specs.Limits.{file_cents}
 use Rattle.answer.specs.Rules.{AllKept}
 use Rattle.digits.specs.Digits.{place}
@@ -20,7 +20,7 @@ use Rattle.checker.specs.Totals.{tally, bare, none, add, cent_sum, withdrawal, w
 use Rattle.checker.proofs.laws.Sums.{both_parts, InAll, same_totals, add_none, add_assoc, counted, next_counts}
 use Rattle.checker.specs.declared.totals.Totals.{Totals}
 use Rattle.checker.specs.declared.Checker.{Checker}
-use Rattle.writer.specs.Given.{Call, open_file, open_batch, pay, close_batch, close_file, first_in, records_in, records_of, amount_of, amount_in, withdraws_as, is_withdrawn, one_payment}
+use Rattle.writer.specs.Given.{Call, open_file, open_batch, pay, close_batch, close_file, first_in, later_in, records_of, amount_of, amount_in, withdraws_as, is_withdrawn, one_payment}
 use Rattle.filling.specs.Filling.{bytes_of}
 use Rattle.writer.specs.Refusals.{expected_in_payment, expected_in, cents_so_far, sum_rules}
 use Rattle.writer.specs.inner.Steps.{expected_at}
@@ -30,7 +30,6 @@ use Rattle.writer.specs.declared.given.Payment.{Payment}
 use Rattle.writer.specs.declared.Writer.{Writer}
 use Rattle.writer.proofs.laws.Expected.{expected, counts_as, first_counts, later_counts}
 use Rattle.writer.proofs.laws.Paying.{drop_one}
-use Rattle.writer.proofs.laws.Given.{begins_with}
 use Rattle.writer.proofs.laws.Accepted as accepted
 use Rattle.writer.proofs.laws.Accepted.{kept, Right, Rights, rights}
 use Rattle.writer.proofs.laws.Reads.{stands_at, GivenAt, number_given}
@@ -143,7 +142,7 @@ call_counted w c out whole e = all_counted rs ∙ ap (add (counted s)) (puts c r
     puts : (c : Call) → Rights (expected_in c s) s (records_of c) → counts_all (records_of c) ≡ put_by c
     puts (open_file v) rs = add_none _
     puts (open_batch v) rs = add_none _
-    puts (pay p) rs = subst (λ (gs : List Fields). Rights (expected_in_payment s) s gs → counts_all gs ≡ one_payment (length gs) (is_withdrawn p) (amount_in p)) (sym (begins_with p)) (payment_counts s (first_in p) (drop 1 (records_in p))) rs
+    puts (pay p) rs = payment_counts s (first_in p) (later_in p) rs
     puts (close_batch v) rs = add_none _
     puts (close_file v) rs = add_none _
 

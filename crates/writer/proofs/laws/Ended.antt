@@ -1,5 +1,5 @@
 -- The phase that an accepted call leaves: closing the file ends it, and behind that every call is refused. Assumes nothing.
-use Rattle.std.specs.Prelude.{◌≡◌, refl, true, List, ◌⊎◌, ℕ, zero, suc, ◌≤◌, ◌<◌, length, drop, Err, Ok}
+use Rattle.std.specs.Prelude.{◌≡◌, refl, true, List, ◌⊎◌, ℕ, zero, suc, ◌≤◌, ◌<◌, length, Err, Ok}
 use Rattle.std.proofs.Common.{sym, ap, subst, ◌∙◌, inl, inr, ⊎_elim, arith, lt-ltb, le-ltb}
 use Rattle.std.proofs.Math.Decide.{dec_lt}
 use Rattle.answer.specs.Rules.{AllKept, first_broken, refusal}
@@ -12,14 +12,14 @@ use Rattle.checker.specs.Machine.{line_of}
 use Rattle.layout.specs.declared.shapes.Phase.{Phase}
 use Rattle.layout.specs.declared.shapes.Phase.TheVariants.{Headed, Opened, Paid, BehindZ, Closed, Ended}
 use Rattle.checker.specs.declared.Checker.{Checker}
-use Rattle.writer.specs.Given.{Call, open_file, open_batch, pay, close_batch, close_file, first_in, records_in, records_of}
+use Rattle.writer.specs.Given.{Call, open_file, open_batch, pay, close_batch, close_file, first_in, later_in, records_in, records_of}
 use Rattle.writer.specs.Refusals.{expected_in_payment, expected_in, all_given, held, call_rules}
 use Rattle.writer.specs.inner.Steps.{MayPay}
 use Rattle.writer.specs.Outcome.{new_writer, behind_all, answer_of}
 use Rattle.writer.specs.Calls.{Lent, WholeCalls, state_behind, left, lent}
 use Rattle.writer.specs.declared.given.Payment.{Payment}
 use Rattle.writer.specs.declared.Writer.{Writer}
-use Rattle.writer.proofs.laws.Given.{begins_with, some_few, paid_in_full}
+use Rattle.writer.proofs.laws.Given.{some_few, paid_in_full}
 use Rattle.writer.proofs.laws.Expected.{Expected, its_own, behind_last, expected}
 use Rattle.writer.proofs.laws.Paying.{phase_at, Inside, before, inside, inside_all}
 use Rattle.writer.proofs.laws.TakesCall.{pay_may}
@@ -68,9 +68,7 @@ pub data Closing : Call → Type 0 where
 
 -- the first of a payment's records that are accepted is the one that is due
 first-due : (s : Checker) (p : Payment) → AllKept (all_given (expected_in_payment s) s (records_in p)) → Stands s.batch 0 (first_in p).which
-first-due s p k =
-    let k' = subst (λ (gs : List Fields). AllKept (all_given (expected_in_payment s) s gs)) (begins_with p) k in
-    own (expected s.dir s.batch 0 (first_in p).which (first_expected (expected_in_payment s) s (first_in p) (drop 1 (records_in p)) k'))
+first-due s p k = own (expected s.dir s.batch 0 (first_in p).which (first_expected (expected_in_payment s) s (first_in p) (later_in p) k))
   where
     own : {r : Record} → Expected s.dir s.batch 0 r → Stands s.batch 0 r
     own (its_own g) = g

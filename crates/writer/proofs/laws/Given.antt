@@ -1,6 +1,6 @@
 -- The records of a payment that is given: its first, how many they are, and one after the other. Assumes nothing.
-use Rattle.std.specs.Prelude.{◌≡◌, refl, List, [], ◌∷◌, ℕ, zero, suc, ◌<◌, ◌≤◌, length, take, drop}
-use Rattle.std.proofs.Common.{sym, ap, ◌∙◌, arith, lt-ltb, eq-eqb, length-take, drop-cons, get_or-take}
+use Rattle.std.specs.Prelude.{◌≡◌, refl, List, [], ◌∷◌, ℕ, suc, ◌<◌, ◌≤◌, length, drop}
+use Rattle.std.proofs.Common.{sym, ap, ◌∙◌, arith, lt-ltb, eq-eqb, drop-cons}
 use Rattle.std.proofs.Math.Decide.{dec_lt}
 use Rattle.answer.proofs.laws.Order.{never}
 use Rattle.layout.specs.Records.{code}
@@ -16,30 +16,21 @@ use Rattle.checker.specs.Order.{payment}
 use Rattle.checker.specs.Machine.{most_details}
 use Rattle.checker.proofs.laws.Payments.{brief, row, stands_in, one_stands}
 use Rattle.checker.specs.inner.Following.{Stands}
-use Rattle.writer.specs.Given.{one, two, three, many, first_as, first_in, records_in}
+use Rattle.writer.specs.Given.{one, two, three, first_in, records_in}
 use Rattle.writer.specs.Refusals.{turns}
 use Rattle.writer.specs.inner.Steps.{nth_in}
-use Rattle.writer.specs.declared.given.Count.{Count}
-use Rattle.writer.specs.declared.given.Count.TheVariants.{Two, Three, One}
 use Rattle.writer.specs.declared.given.Payment.{Payment}
+use Rattle.writer.specs.declared.given.Payment.TheVariants.{One, Two, Three}
 
 -- it has a first
 pub begins_with : (p : Payment) → records_in p ≡ first_in p ∷ drop 1 (records_in p)
-begins_with p = go p.count
-  where
-    go : (c : Count) → let all = first_as c p.first ∷ p.second ∷ p.third ∷ [] in take (many c) all ≡ first_as c p.first ∷ drop 1 (take (many c) all)
-    go Two = refl
-    go Three = refl
-    go One = refl
+begins_with p = refl
 
 -- and no more than a payment may have
 pub some_few : (p : Payment) → (1 ≤ length (records_in p)) × (length (records_in p) ≤ most_details)
-some_few p = go p.count
-  where
-    go : (c : Count) → let n = length (take (many c) (first_as c p.first ∷ p.second ∷ p.third ∷ [])) in (1 ≤ n) × (n ≤ most_details)
-    go Two = omega arith
-    go Three = omega arith
-    go One = omega arith
+some_few (One a) = omega arith
+some_few (Two a b) = omega arith
+some_few (Three a b c) = omega arith
 
 -- behind an O no record of a payment is due
 o_alone : (b : Batch) → Stands b 0 SegmentO → length (payment b) ≤ 1
@@ -51,29 +42,13 @@ o_alone b g = go (dec_lt 1 (length (payment b)))
 
 -- where its first is the one that is due, it has as many as its kind of batch asks for
 pub paid_in_full : (b : Batch) (p : Payment) → Stands b 0 (first_in p).which → length (payment b) ≤ length (records_in p)
-paid_in_full b p = go p.count
-  where
-    go : (c : Count) → let all = first_as c p.first ∷ p.second ∷ p.third ∷ [] in Stands b 0 (first_as c p.first).which → length (payment b) ≤ length (take (many c) all)
-    go Two g = omega (arith, brief b)
-    go Three g = omega (arith, brief b)
-    go One g = o_alone b g
+paid_in_full b (One x) g = o_alone b g
+paid_in_full b (Two x y) g = omega (arith, brief b)
+paid_in_full b (Three x y z) g = omega (arith, brief b)
 
 -- from a position on
 pub from_position : (p : Payment) (k : ℕ) → k < length (records_in p) → drop k (records_in p) ≡ nth_in k p ∷ drop (suc k) (records_in p)
-from_position p k h = go p.count h
-  where
-    all : List Fields
-    all = first_in p ∷ p.second ∷ p.third ∷ []
-
-    go : (c : Count) → k < length (take (many c) all) → drop k (take (many c) all) ≡ nth_in k p ∷ drop (suc k) (take (many c) all)
-    go c h = drop-cons (take (many c) all) k p.third h ∙ rw (get_or-take (many c) all k p.third (omega (arith, length-take (many c) all)))
-
--- behind the second, the third
-pub the_third : (p : Payment) (k : ℕ) → 2 ≤ k → nth_in k p ≡ p.third
-the_third p zero h = absurd (omega arith)
-the_third p (suc zero) h = absurd (omega arith)
-the_third p (suc (suc zero)) h = refl
-the_third p (suc (suc (suc k))) h = refl
+from_position p k h = drop-cons (records_in p) k (first_in p) h
 
 -- ---- and so many records are a payment
 

@@ -71,7 +71,7 @@ pub data AllRight : List Made → Type 0 where
 
 -- the record of a payment at a position, from 0 on
 abbrev pub nth_in : ℕ → Payment → Fields
-nth_in k p = get_or (first_in p ∷ p.second ∷ p.third ∷ []) k p.third
+nth_in k p = get_or (records_in p) k (first_in p)
 
 -- and whether it is the one that is expected there
 abbrev pub expected_at : ℕ → Direction → Batch → Record → Bool

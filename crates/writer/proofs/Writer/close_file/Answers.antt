@@ -6,7 +6,6 @@ use Rattle.fields.specs.Values.{taken_as}
 use Rattle.writer.specs.Given.{close_file}
 use Rattle.writer.proofs.laws.TakesCall.{end_may}
 use mathlib.Core.List.{[], ◌∷◌}
-use mathlib.Core.Path.{◌∙◌}
 use mathlib.Core.Path.{refl}
 use Rattle.writer.proofs.Writer.close_file.Goals as goal
 
@@ -14,12 +13,12 @@ pub write_one-requires : goal.write_one-requires
 write_one-requires c =
     λ t.
     let a = c.args in
-    let k = turned (close_file a.v) a.self.checker (c.check_turn-turn.ensures ∙ rw (c.turns_at-may.ensures, c.phase.ensures) (turn_is c.args.self.checker _ _ done)) t in
+    let k = turned (close_file a.v) a.self.checker (rw (c.turns_at-may.ensures, c.phase.ensures) (turn_is a.self.checker _ _ done)) t in
     rw c.taken_as.ensures (end_may a.self.checker k.0 a.v k.1)
 
 pub returns : goal.returns
 returns c =
     let a = c.args in
     rw c.hand_back.ensures
-    (whole_call (close_file a.v) (c.check_turn-turn.ensures ∙ rw (c.turns_at-may.ensures, c.phase.ensures) (turn_is c.args.self.checker _ _ done))
+    (whole_call (close_file a.v) (rw (c.turns_at-may.ensures, c.phase.ensures) (turn_is a.self.checker _ _ done))
     (one_expected (taken_as FileTrailer a.v) ((FileTrailer ∷ []) ∷ []) _ refl (rw c.taken_as.ensures at c.write_one.ensures)))

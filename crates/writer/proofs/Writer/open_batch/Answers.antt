@@ -5,7 +5,6 @@ use Rattle.fields.specs.Values.{taken_as}
 use Rattle.writer.specs.Given.{open_batch}
 use Rattle.writer.proofs.laws.TakesCall.{batch_may}
 use mathlib.Core.List.{[], ◌∷◌}
-use mathlib.Core.Path.{◌∙◌}
 use mathlib.Core.Path.{refl}
 use Rattle.writer.proofs.Writer.open_batch.Goals as goal
 
@@ -13,12 +12,12 @@ pub write_one-requires : goal.write_one-requires
 write_one-requires c =
     λ t.
     let a = c.args in
-    let k = turned (open_batch a.v) a.self.checker ((c.check_turn-turn.ensures ∙ rw (c.turns_at-may.ensures, c.phase.ensures) (turn_is c.args.self.checker _ _ (rw c.taken_as-given.ensures at c.batch_limits.ensures)))) t in
+    let k = turned (open_batch a.v) a.self.checker (rw (c.turns_at-may.ensures, c.phase.ensures) (turn_is c.args.self.checker _ _ (rw c.taken_as-given.ensures at c.batch_limits-limits.ensures))) t in
     rw c.taken_as-given.ensures (batch_may a.self.checker k.0 a.v k.1)
 
 pub returns : goal.returns
 returns c =
     let a = c.args in
     rw c.hand_back.ensures
-    (whole_call (open_batch a.v) ((c.check_turn-turn.ensures ∙ rw (c.turns_at-may.ensures, c.phase.ensures) (turn_is c.args.self.checker _ _ (rw c.taken_as-given.ensures at c.batch_limits.ensures))))
+    (whole_call (open_batch a.v) (rw (c.turns_at-may.ensures, c.phase.ensures) (turn_is c.args.self.checker _ _ (rw c.taken_as-given.ensures at c.batch_limits-limits.ensures)))
     (one_expected (taken_as BatchHeader a.v) ((BatchHeader ∷ []) ∷ []) _ refl (rw c.taken_as-given.ensures at c.write_one.ensures)))

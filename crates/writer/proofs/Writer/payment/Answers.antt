@@ -2,18 +2,17 @@
 use Rattle.writer.proofs.Answering.{turn_is, turned, whole_call}
 use Rattle.writer.specs.Given.{pay}
 use Rattle.writer.proofs.laws.TakesCall.{pay_may}
-use mathlib.Core.Path.{◌∙◌}
 use Rattle.writer.proofs.Writer.payment.Goals as goal
 
 pub write_payment-requires : goal.write_payment-requires
 write_payment-requires c =
     λ t.
     let a = c.args in
-    let k = turned (pay a.p) a.self.checker ((c.check_turn-turn.ensures ∙ rw (c.turns_at-may.ensures, c.phase.ensures) (turn_is c.args.self.checker _ _ (rw c.records.ensures.0 at c.payment_limits-limits.ensures)))) t in
+    let k = turned (pay a.p) a.self.checker (rw (c.turns_at-may.ensures, c.phase.ensures) (turn_is c.args.self.checker _ _ (rw c.records.ensures.0 at c.payment_limits-limits.ensures))) t in
     pay_may a.self.checker k.0 a.p k.1
 
 pub returns : goal.returns
 returns c =
     let a = c.args in
     rw c.hand_back.ensures
-    (whole_call (pay a.p) ((c.check_turn-turn.ensures ∙ rw (c.turns_at-may.ensures, c.phase.ensures) (turn_is c.args.self.checker _ _ (rw c.records.ensures.0 at c.payment_limits-limits.ensures)))) c.write_payment.ensures)
+    (whole_call (pay a.p) (rw (c.turns_at-may.ensures, c.phase.ensures) (turn_is c.args.self.checker _ _ (rw c.records.ensures.0 at c.payment_limits-limits.ensures))) c.write_payment.ensures)

@@ -25,9 +25,6 @@ of_o = by_amount (λ r. (shape_of r).amount ≡ (Some OfO) → r ≡ SegmentO) (
 amount_told : (r : Record) {x : Shape} {a : Option Amount} → x ≡ shape_of r → x.amount ≡ a → (shape_of r).amount ≡ a
 amount_told r e q = sym (ap (λ (x : Shape). x.amount) e) ∙ q
 
-pub returns-in-None : goal.returns-in-None
-returns-in-None c = rw (amount_told c.args.v.which c.shape_of.ensures c.in-None.is)
-
 pub returns-in-Some-OfA : goal.returns-in-Some-OfA
 unfolding fields_of index_of before
 returns-in-Some-OfA c =

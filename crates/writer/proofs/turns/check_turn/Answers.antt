@@ -1,11 +1,8 @@
 -- `writer::turns::check_turn` meets its contract. Assumes nothing.
 use Rattle.writer.proofs.Held.{held_sound}
-use borrow.Author.Tests.{not-true, not-false}
+use borrow.Author.Tests.{not-false}
 use mathlib.Core.Path.{sym, ◌∙◌}
 use Rattle.writer.proofs.turns.check_turn.Goals as goal
-
-pub returns-then-not-is_held : goal.returns-then-not-is_held
-returns-then-not-is_held c = rw (sym c.is_held.ensures ∙ not-true _ c.if-not-is_held.true-raw, c.refused.ensures)
 
 pub returns : goal.returns
 returns c =
