@@ -28,7 +28,7 @@ impl Checker {
         Checker {
             phase: shape.after,
             dir: direction_of(rec),
-            batch: Batch::Unknown,
+            batch: None,
             bank: digits::value(&rec[places::BANK_FROM - 1..places::BANK_TO]),
             closed: self.closed.plus(counted(shape, rec)),
             ..self
@@ -36,7 +36,7 @@ impl Checker {
     }
 
     // A line of a batch counts in the open batch.
-    fn in_batch(self, shape: Shape, batch: Batch, rec: &[u8; RECORD_BYTES]) -> Checker
+    fn in_batch(self, shape: Shape, batch: Option<Batch>, rec: &[u8; RECORD_BYTES]) -> Checker
         requires { Room self (counts_by shape rec.now) }
         ensures { result ≡ in_batch shape batch self rec.now }
     {
@@ -65,7 +65,7 @@ impl Checker {
     {
         Checker {
             phase: shape.after,
-            batch: Batch::Unknown,
+            batch: None,
             closed: self.closed.plus(self.current.plus(counted(shape, rec))),
             current: Totals::none(),
             ..self
@@ -78,7 +78,7 @@ impl Checker {
     {
         Checker {
             phase: shape.after,
-            batch: Batch::Unknown,
+            batch: None,
             closed: self.closed.plus(counted(shape, rec)),
             ..self
         }
