@@ -16,7 +16,6 @@ use Rattle.layout.specs.declared.shapes.Shape.{Shape}
 use Rattle.layout.specs.declared.shapes.LineType.{LineType}
 use Rattle.layout.specs.declared.shapes.LineType.TheVariants.{FileFirst, BatchFirst, Detail, BatchLast, FileLast}
 use Rattle.layout.specs.declared.pairs.Batch.{Batch}
-use Rattle.layout.specs.declared.pairs.Batch.TheVariants.{Unknown}
 use Rattle.layout.specs.Records.{shape_of}
 use Rattle.checker.specs.Totals.{none, add, counts_by, amount_digits, batch_count, record_count, payment_count, cent_sum}
 use Rattle.checker.specs.Line.{record_in, line_is, rules_of_line, most_batches, most_payments}
@@ -29,11 +28,11 @@ use Rattle.checker.specs.declared.Stepped.{Stepped}
 -- ---- the state
 
 -- the phase, the direction, the kind of the open batch, the bank; what the closed batches and the file's own lines count; what the open batch counts
-abbrev pub state : Phase → Direction → Batch → ℕ → Totals → Totals → Checker
+abbrev pub state : Phase → Direction → Option Batch → ℕ → Totals → Totals → Checker
 state p d b n x y = record { phase = p; dir = d; batch = b; bank = n; closed = x; current = y }
 
 abbrev pub start : Checker
-start = state Start Remittance Unknown 0 none none
+start = state Start Remittance None 0 none none
 
 -- the line that is next: accepted lines plus one
 abbrev pub line_of : Checker → LineNo
@@ -45,16 +44,16 @@ abbrev pub direction_of : List ℕ → Direction
 direction_of rec = cond (eqb (place direction_field.from rec) (digit_byte 2)) Return Remittance
 
 -- a line of a batch counts in the open batch
-abbrev pub in_batch : Shape → Batch → Checker → List ℕ → Checker
+abbrev pub in_batch : Shape → Option Batch → Checker → List ℕ → Checker
 in_batch x b s rec = state x.after s.dir b s.bank s.closed (add s.current (counts_by x rec))
 
 -- by the row: the file's own lines count in the file, and a batch trailer closes the open batch
 abbrev pub next_of_type : LineType → Shape → Checker → List ℕ → Checker
-next_of_type FileFirst x s rec = state x.after (direction_of rec) Unknown (value (part bank_field rec)) (add s.closed (counts_by x rec)) s.current
+next_of_type FileFirst x s rec = state x.after (direction_of rec) None (value (part bank_field rec)) (add s.closed (counts_by x rec)) s.current
 next_of_type BatchFirst x s rec = in_batch x (batch_of s.dir (part service_field rec) (part form_field rec)) s rec
 next_of_type Detail x s rec = in_batch x s.batch s rec
-next_of_type BatchLast x s rec = state x.after s.dir Unknown s.bank (add s.closed (add s.current (counts_by x rec))) none
-next_of_type FileLast x s rec = state x.after s.dir Unknown s.bank (add s.closed (counts_by x rec)) s.current
+next_of_type BatchLast x s rec = state x.after s.dir None s.bank (add s.closed (add s.current (counts_by x rec))) none
+next_of_type FileLast x s rec = state x.after s.dir None s.bank (add s.closed (counts_by x rec)) s.current
 
 abbrev pub next_by_row : Shape → Checker → List ℕ → Checker
 next_by_row x s rec = next_of_type x.line x s rec

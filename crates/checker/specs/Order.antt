@@ -6,19 +6,19 @@ use Rattle.layout.specs.declared.Direction.TheVariants.{Remittance, Return}
 use Rattle.layout.specs.declared.Record.{Record}
 use Rattle.layout.specs.declared.Record.TheVariants.{FileHeader, BatchHeader, SegmentA, SegmentB, SegmentJ, SegmentJ52, SegmentZ, BatchTrailer, FileTrailer, SegmentO}
 use Rattle.layout.specs.declared.pairs.Batch.{Batch}
-use Rattle.layout.specs.declared.pairs.Batch.TheVariants.{Credit, Boleto, Unknown, Collection}
+use Rattle.layout.specs.declared.pairs.Batch.TheVariants.{Credit, Boleto, Collection}
 use Rattle.layout.specs.declared.shapes.Phase.{Phase}
 use Rattle.layout.specs.declared.shapes.Phase.TheVariants.{Start, Headed, Opened, Within, Paid, BehindZ, Closed, Ended}
 
--- the records of a payment
-abbrev pub payment : Batch → List Record
-payment Credit = SegmentA ∷ SegmentB ∷ []
-payment Boleto = SegmentJ ∷ SegmentJ52 ∷ []
-payment Unknown = []
-payment Collection = SegmentO ∷ []
+-- the records of a payment; between batches there are none
+abbrev pub payment : Option Batch → List Record
+payment (Some Credit) = SegmentA ∷ SegmentB ∷ []
+payment (Some Boleto) = SegmentJ ∷ SegmentJ52 ∷ []
+payment (Some Collection) = SegmentO ∷ []
+payment None = []
 
 -- the one at a position, from 0 on; behind the last there is none
-abbrev pub record_at : ℕ → Batch → List Record
+abbrev pub record_at : ℕ → Option Batch → List Record
 record_at n b = take 1 (drop n (payment b))
 
 -- the first of records, or none
@@ -27,7 +27,7 @@ reading_of [] = None
 reading_of (r ∷ rs) = Some r
 
 -- the lines that may follow
-abbrev pub follows : Phase → Direction → Batch → List Record
+abbrev pub follows : Phase → Direction → Option Batch → List Record
 follows Start d b = FileHeader ∷ []
 follows Headed d b = BatchHeader ∷ []
 follows Opened d b = record_at 0 b

@@ -33,7 +33,7 @@ pub const LINE_BYTES: usize = 242;
 pub struct Checker {
     phase: Phase,
     dir: Direction,
-    batch: Batch,
+    batch: Option<Batch>,
     bank: u64,
     closed: Totals,
     current: Totals,
@@ -73,7 +73,7 @@ impl Checker {
         Checker {
             phase: Phase::Start,
             dir: Direction::Remittance,
-            batch: Batch::Unknown,
+            batch: None,
             bank: 0,
             closed: Totals::none(),
             current: Totals::none(),
@@ -131,8 +131,8 @@ impl Checker {
         self.dir
     }
 
-    // The kind of the open batch.
-    pub fn batch(self) -> Batch
+    // The kind of the open batch; between batches there is none.
+    pub fn batch(self) -> Option<Batch>
         ensures { result ≡ self.batch }
     {
         self.batch

@@ -22,7 +22,7 @@ fn direction_of(rec: &[u8; RECORD_BYTES]) -> Direction
 }
 
 // The kind of batch that a batch header opens.
-fn batch_opened(dir: Direction, rec: &[u8; RECORD_BYTES]) -> Batch
+fn batch_opened(dir: Direction, rec: &[u8; RECORD_BYTES]) -> Option<Batch>
     ensures { result ≡ batch_of dir (part service_field rec.now) (part form_field rec.now) }
 {
     let service = &rec[places::SERVICE_FROM - 1..places::SERVICE_TO];
@@ -46,7 +46,7 @@ impl Checker {
         match shape.line {
             LineType::FileFirst => Checker {
                 dir: direction_of(rec),
-                batch: Batch::Unknown,
+                batch: None,
                 bank: digits::value(&rec[places::BANK_FROM - 1..places::BANK_TO]),
                 closed: self.closed.plus(counts),
                 ..moved
@@ -61,13 +61,13 @@ impl Checker {
                 ..moved
             },
             LineType::BatchLast => Checker {
-                batch: Batch::Unknown,
+                batch: None,
                 closed: self.closed.plus(self.current.plus(counts)),
                 current: Totals::none(),
                 ..moved
             },
             LineType::FileLast => Checker {
-                batch: Batch::Unknown,
+                batch: None,
                 closed: self.closed.plus(counts),
                 ..moved
             },

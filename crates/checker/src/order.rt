@@ -38,31 +38,30 @@ fn of_two(position: u8, first: Record, second: Record) -> Option<Record>
     }
 }
 
-// The record at a position of a payment.
-pub fn record_at(batch: Batch, position: u8) -> Option<Record>
+// The record at a position of a payment; between batches there is none.
+pub fn record_at(batch: Option<Batch>, position: u8) -> Option<Record>
     ensures { result ≡ reading_of (record_at position batch) }
 {
-    match batch {
+    match batch? {
         Batch::Credit => of_two(position, Record::SegmentA, Record::SegmentB),
         Batch::Boleto => of_two(position, Record::SegmentJ, Record::SegmentJ52),
-        Batch::Unknown => None,
         Batch::Collection => of_one(position, Record::SegmentO),
     }
 }
 
 // How many records a payment has, a Z behind them not counted.
-pub fn records_of(batch: Batch) -> u8
+pub fn records_of(batch: Option<Batch>) -> u8
     ensures { result ≡ length (payment batch) }
 {
     match batch {
-        Batch::Credit | Batch::Boleto => 2,
-        Batch::Collection => 1,
-        Batch::Unknown => 0,
+        Some(Batch::Credit | Batch::Boleto) => 2,
+        Some(Batch::Collection) => 1,
+        None => 0,
     }
 }
 
 // What a detail is read as: the one that is expected. Z alone may be left out, and is known by its letter.
-fn detail_reading(phase: Phase, dir: Direction, batch: Batch, segment: u8) -> Option<Record>
+fn detail_reading(phase: Phase, dir: Direction, batch: Option<Batch>, segment: u8) -> Option<Record>
     ensures { result ≡ read_as 51 segment (follows phase dir batch) }
 {
     match phase {
@@ -93,7 +92,7 @@ fn end_reading(phase: Phase, kind: u8) -> Option<Record>
 pub(crate) fn line_reading(
     phase: Phase,
     dir: Direction,
-    batch: Batch,
+    batch: Option<Batch>,
     kind: u8,
     segment: u8,
 ) -> Option<Record>

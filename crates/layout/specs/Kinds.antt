@@ -1,5 +1,5 @@
 -- The kinds of field, a row each: how a caller holds a field of the kind, and its rules. Assumes nothing.
-use Rattle.std.specs.Prelude.{Bool, true, false, not, ◌&&◌, ◌||◌, List, [], ◌∷◌, ◌++◌, ℕ, ◌+◌, ◌-◌, eqb, length, get_or, replicate}
+use Rattle.std.specs.Prelude.{Bool, true, false, not, ◌&&◌, ◌||◌, List, [], ◌∷◌, ◌++◌, ℕ, ◌+◌, ◌-◌, eqb, length, get_or, replicate, is_some}
 use Rattle.answer.specs.Rules.{Rule, rule}
 use Rattle.digits.specs.Digits.{all_digits, digit_byte, place}
 use Rattle.calendar.specs.Calendar.{date_fits, time_fits}
@@ -7,7 +7,7 @@ use Rattle.ids.specs.Ids.{registration_of, characters_fit}
 use Rattle.ids.specs.declared.Registration.{Registration}
 use Rattle.boleto.specs.Strings.{currency_place}
 use Rattle.boleto.specs.Rules.{currency_fits}
-use Rattle.layout.specs.Pairs.{among, batch_of, known}
+use Rattle.layout.specs.Pairs.{among, batch_of}
 use Rattle.layout.specs.Field.{Kind, N, NOrBlank, Id, T, F, D, Time, K, O, Zeros, Exact, OneOf, Service, Form, Barcode, Code, RecordType, Segment, part}
 use Rattle.layout.specs.Table.{service_field, form_field}
 use Rattle.layout.specs.declared.Direction.{Direction}
@@ -103,7 +103,7 @@ blank_in Return p = []
 -- service and form are one pair with one rule, which the service carries: whichever half is wrong, or no number, is refused there
 abbrev pub pair_rule : Part → List Rule
 pair_rule p =
-    rule 14 service_field.from (known (batch_of p.direction (part service_field p.whole) (part form_field p.whole))) ∷ []
+    rule 14 service_field.from (is_some (batch_of p.direction (part service_field p.whole) (part form_field p.whole))) ∷ []
 
 -- what a registration number is, by its type, in the place right before its first
 abbrev pub registration_at : ℕ → List ℕ → Registration

@@ -1,11 +1,11 @@
 -- Service and form: which pairs there are, and the kind of batch of each. Assumes nothing.
-use Rattle.std.specs.Prelude.{Bool, true, false, cond, ◌&&◌, ◌||◌, List, [], ◌∷◌, ℕ, eqb, Option}
+use Rattle.std.specs.Prelude.{Bool, false, cond, ◌&&◌, ◌||◌, List, [], ◌∷◌, ℕ, eqb, Option, None, Some}
 use Rattle.digits.specs.Numbers.{number_of}
 use Rattle.calendar.specs.Calendar.{number_fits}
 use Rattle.layout.specs.declared.Direction.{Direction}
 use Rattle.layout.specs.declared.Direction.TheVariants.{Remittance, Return}
 use Rattle.layout.specs.declared.pairs.Batch.{Batch}
-use Rattle.layout.specs.declared.pairs.Batch.TheVariants.{Credit, Boleto, Unknown, Collection}
+use Rattle.layout.specs.declared.pairs.Batch.TheVariants.{Credit, Boleto, Collection}
 
 pub record Pairs : Type 0 where
   pub service : ℕ
@@ -30,18 +30,12 @@ abbrev pub among : ℕ → List ℕ → Bool
 among n [] = false
 among n (m ∷ ms) = eqb n m || among n ms
 
--- the kind of batch of a service and a form
-abbrev pub batch_among : List Pairs → Option ℕ → Option ℕ → Batch
-batch_among [] service form = Unknown
+-- the kind of batch of a service and a form, or none
+abbrev pub batch_among : List Pairs → Option ℕ → Option ℕ → Option Batch
+batch_among [] service form = None
 batch_among (p ∷ ps) service form =
-    cond (number_fits (λ n. eqb n p.service) service && number_fits (λ n. among n p.forms) form) p.batch (batch_among ps service form)
+    cond (number_fits (λ n. eqb n p.service) service && number_fits (λ n. among n p.forms) form) (Some p.batch) (batch_among ps service form)
 
 -- that of the two digits of each, as they stand in a batch header
-unfoldable pub batch_of : Direction → List ℕ → List ℕ → Batch
+unfoldable pub batch_of : Direction → List ℕ → List ℕ → Option Batch
 batch_of d service form = batch_among (pairs d) (number_of service) (number_of form)
-
-abbrev pub known : Batch → Bool
-known Credit = true
-known Boleto = true
-known Unknown = false
-known Collection = true

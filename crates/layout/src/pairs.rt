@@ -8,7 +8,6 @@ use super::Direction;
 pub enum Batch {
     Credit,
     Boleto,
-    Unknown,
     Collection,
 }
 
@@ -27,33 +26,28 @@ fn boleto_service(dir: Direction) -> u64
     }
 }
 
-// The kind of batch of a service and a form.
-pub fn batch_with(dir: Direction, service: u64, form: u64) -> Batch
+// The kind of batch of a service and a form, where they make one.
+pub fn batch_with(dir: Direction, service: u64, form: u64) -> Option<Batch>
     ensures { result ≡ batch_among (pairs dir) (Some service) (Some form) }
 {
     let credit_form = (form == 1) | ((form == 10) | ((form == 41) | (form == 45)));
     if (service == CREDIT_SERVICE) & credit_form {
-        return Batch::Credit;
+        return Some(Batch::Credit);
     }
     let boleto_form = (form == 30) | (form == 31);
     if (service == boleto_service(dir)) & boleto_form {
-        return Batch::Boleto;
+        return Some(Batch::Boleto);
     }
     if (service == COLLECTION_SERVICE) & (form == COLLECTION_FORM) {
-        return Batch::Collection;
+        return Some(Batch::Collection);
     }
-    Batch::Unknown
+    None
 }
 
 // The kind of batch of a service and a form as they stand in a batch header.
-pub fn batch_of(dir: Direction, service: &[u8], form: &[u8]) -> Batch
+#[tactic(auto, unfolding(crate::specs::Pairs::batch_of))]
+pub fn batch_of(dir: Direction, service: &[u8], form: &[u8]) -> Option<Batch>
     ensures { result ≡ batch_of dir service.now form.now }
 {
-    let Some(s) = digits::number_of(service) else {
-        return Batch::Unknown;
-    };
-    let Some(f) = digits::number_of(form) else {
-        return Batch::Unknown;
-    };
-    batch_with(dir, s, f)
+    batch_with(dir, digits::number_of(service)?, digits::number_of(form)?)
 }

@@ -1,5 +1,5 @@
 -- Which files are accepted, said of the whole file: its order, its bank and numbering, its counts, its sums and its limits. Assumes nothing.
-use Rattle.std.specs.Prelude.{◌≡◌, true, ℕ, ◌+◌, ◌≤◌, ◌<◌, length, Some}
+use Rattle.std.specs.Prelude.{◌≡◌, true, ℕ, ◌+◌, ◌≤◌, ◌<◌, length, Some, Option}
 use mathlib.Core.List.{List, [], ◌∷◌, ◌++◌, flatten}
 use Rattle.answer.specs.Limits.{file_cents}
 use Rattle.answer.specs.Rules.{AllKept}
@@ -48,7 +48,7 @@ pub data OptionalZ : Direction → List Record → Type 0 where
   with_z : OptionalZ Return (SegmentZ ∷ [])
 
 -- so many payments, each the records of the batch's kind
-pub data Payments (d : Direction) (b : Batch) : ℕ → List Record → Type 0 where
+pub data Payments (d : Direction) (b : Option Batch) : ℕ → List Record → Type 0 where
   no-payments : Payments d b 0 []
   pay : {k : ℕ} {zs later : List Record} → OptionalZ d zs → Payments d b k later → Payments d b (k + 1) (payment b ++ (zs ++ later))
 
@@ -73,7 +73,7 @@ withdrawn_among (r ∷ rs) (l ∷ ls) = add_withdrawn (withdrawn_of r (record_in
 -- ---- batches
 
 -- the kind that a batch header's service and form name
-abbrev pub kind_in : Direction → List ℕ → Batch
+abbrev pub kind_in : Direction → List ℕ → Option Batch
 kind_in d header = batch_of d (part service_field (record_in header)) (part form_field (record_in header))
 
 -- a header, one or more payments, a trailer that counts the batch's records and sums its amounts, withdrawn ones too

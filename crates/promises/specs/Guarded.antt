@@ -1,5 +1,5 @@
 -- The guarded places: another byte there, and an accepted file is refused. Assumes nothing.
-use Rattle.std.specs.Prelude.{◌≡◌, ℕ, suc, ◌+◌, ◌*◌, ◌-◌, ◌≤◌, ◌<◌, length, get_or, take, drop, set, Some}
+use Rattle.std.specs.Prelude.{◌≡◌, ℕ, suc, ◌+◌, ◌*◌, ◌-◌, ◌≤◌, ◌<◌, length, get_or, take, drop, set, Some, Option}
 use mathlib.Core.List.{List, Memᴰ}
 use Rattle.digits.specs.Digits.{digit_byte}
 use Rattle.boleto.specs.Guarded.{GuardedInBarcode}
@@ -42,15 +42,15 @@ pub data Fixed : Direction → Kind → Type 0 where
 
 -- the letter of a detail is guarded in a remittance, and in batches of credits and of boletos; in a return of collections an O of no cents
 -- may pass for a Z, and a Z for such an O
-pub data LetterGuarded : Direction → Batch → Type 0 where
-  in_remittance : {b : Batch} → LetterGuarded Remittance b
-  of_credits : {d : Direction} → LetterGuarded d Credit
-  of_boletos : {d : Direction} → LetterGuarded d Boleto
+pub data LetterGuarded : Direction → Option Batch → Type 0 where
+  in_remittance : {b : Option Batch} → LetterGuarded Remittance b
+  of_credits : {d : Direction} → LetterGuarded d (Some Credit)
+  of_boletos : {d : Direction} → LetterGuarded d (Some Boleto)
 
 -- of a file in this direction, in a batch of this kind, in a line that is read as this record: line ends; 1-8; 9-13 of details, and 14 where their
 -- letter is guarded; the fields above; amounts of A and of O; 100-144 and 153-167 of J; 18-41 of batch trailers; 18-29 of the file trailer; of J
 -- 18-61 when place 22 isn't 1, else 21 and 22
-pub data Guarded (d : Direction) (b : Batch) (r : Record) (l : List ℕ) (p : ℕ) : Type 0 where
+pub data Guarded (d : Direction) (b : Option Batch) (r : Record) (l : List ℕ) (p : ℕ) : Type 0 where
   line-end : On (suc record_bytes) line_bytes p → Guarded d b r l p
   first_eight : On 1 type_place p → Guarded d b r l p
   detail_number : type_of r ≡ digit_byte 3 → In number_field p → Guarded d b r l p

@@ -1,6 +1,6 @@
 -- What is guarded: other bytes there, and an accepted file is refused. First fields: any other content is seen. Then places: another byte is seen. Then
 -- neighbours: two unequal ones, swapped, are seen. Assumes nothing.
-use Rattle.std.specs.Prelude.{◌≡◌, ◌≢◌, ℕ, suc, ◌+◌, ◌*◌, ◌≤◌, length}
+use Rattle.std.specs.Prelude.{◌≡◌, ◌≢◌, ℕ, suc, ◌+◌, ◌*◌, ◌≤◌, length, Option}
 use mathlib.Core.List.{List, [], ◌∷◌}
 use Rattle.digits.specs.Digits.{digit_byte, place, swapped}
 use Rattle.boleto.specs.Guarded.{GuardedInBarcode, GuardedPairInBarcode}
@@ -40,7 +40,7 @@ pub data CountIn : Record → Field → Type 0 where
 
 -- of a file in this direction, in a batch of this kind, in a line that is read as this record: line ends; 1-8, which are bank, batch number and type;
 -- 9-13 of details, and 14 where their letter is guarded; and the fields above
-pub data GuardedField (d : Direction) (b : Batch) (r : Record) : Field → Type 0 where
+pub data GuardedField (d : Direction) (b : Option Batch) (r : Record) : Field → Type 0 where
   line-end : GuardedField d b r line_end
   bank : GuardedField d b r bank_field
   batch-number : GuardedField d b r batch_field
@@ -52,26 +52,26 @@ pub data GuardedField (d : Direction) (b : Batch) (r : Record) : Field → Type 
   count : {f : Field} → CountIn r f → GuardedField d b r f
 
 -- fields in which other content, that of this other line, is seen: the guarded ones, whatever it is, and the barcode of a J if with it the line is no right J
-pub data Seen (d : Direction) (b : Batch) (r : Record) (other : List ℕ) : Field → Type 0 where
+pub data Seen (d : Direction) (b : Option Batch) (r : Record) (other : List ℕ) : Field → Type 0 where
   guarded : {f : Field} → GuardedField d b r f → Seen d b r other f
   no_barcode : r ≡ SegmentJ → (RightLine SegmentJ d other → ⊥) → Seen d b r other barcode_field
 
 -- ---- places and neighbours
 
 -- the places of the guarded fields; in the barcode of a J 18-61 when place 22 isn't 1, else 21 and 22
-pub data Guarded (d : Direction) (b : Batch) (r : Record) (l : List ℕ) (p : ℕ) : Type 0 where
+pub data Guarded (d : Direction) (b : Option Batch) (r : Record) (l : List ℕ) (p : ℕ) : Type 0 where
   in_field : {f : Field} → GuardedField d b r f → In f p → Guarded d b r l p
   in_barcode : {q : ℕ} → r ≡ SegmentJ → GuardedInBarcode (part barcode_field (record_in l)) q → p ≡ place_of q barcode_field → Guarded d b r l p
 
 -- a place and the one behind it: both in one guarded field, as in one amount; or in the barcode of a J when place 22 isn't 1 and neither is place 22
-pub data GuardedPair (d : Direction) (b : Batch) (r : Record) (l : List ℕ) (p : ℕ) : Type 0 where
+pub data GuardedPair (d : Direction) (b : Option Batch) (r : Record) (l : List ℕ) (p : ℕ) : Type 0 where
   both_in_field : {f : Field} → GuardedField d b r f → In f p → In f (suc p) → GuardedPair d b r l p
   both_in_barcode : {q : ℕ} → r ≡ SegmentJ → GuardedPairInBarcode (part barcode_field (record_in l)) q → p ≡ place_of q barcode_field → GuardedPair d b r l p
 
 -- ---- in a file
 
 -- line n has a place p, and this is so of the file's direction, of the kind of batch there and of the record that line n is read as
-pub record OfLine (file : List ℕ) (n p : ℕ) (So : Direction → Batch → Record → Type 0) : Type 0 where
+pub record OfLine (file : List ℕ) (n p : ℕ) (So : Direction → Option Batch → Record → Type 0) : Type 0 where
   pub which : Record
   pub read : ReadAt n file which
   pub inside : n * line_bytes + p ≤ length file

@@ -13,10 +13,6 @@ use Rattle.answer.proofs.laws.Order.{past, done}
 use Rattle.answer.specs.Rules.{Answer}
 use Rattle.digits.specs.Digits.{all_digits}
 use Rattle.layout.specs.inner.Lent.{n_or_blank, first_letter, is_mark, kind_of, content_of, may_be}
-use Rattle.layout.specs.Pairs.{known}
-use Rattle.layout.specs.declared.pairs.Batch.{Batch}
-use Rattle.layout.specs.declared.pairs.Batch.TheVariants.{Credit, Boleto, Collection}
-use Rattle.std.proofs.Math.Logic.{◌⊎◌, inl, inr}
 use Rattle.layout.specs.Field.{Kind, NOrBlank, T as Txt, RecordType, Segment}
 use Rattle.layout.specs.Kinds.{Part, means, wrong, is_fixed, same, blank}
 use Rattle.walk.specs.inner.Steps.{Looked, for_digits, for_content, tested, mark_look, text_look, number_or_blank_look}
@@ -66,12 +62,6 @@ for_number_or_blank {k} {p} e q = at_key e (subst⁻¹ (λ (y : Look). Looked NO
     go : (b : Bool) → eqb (get_or p.bytes 0 0) blank ≡ b → Looked NOrBlank p (cond b (Fixed 8 (Run blank)) Digits)
     go true q = for_content {number = 8} {c = Run blank} (rw (run_is blank (length p.bytes), blanks_asked p.bytes (eqb-true _ _ q)))
     go false q = for_digits (rw (digits_asked p.bytes q))
-
--- service and form make a batch
-pub is_known : {b : Batch} → (b ≡ Credit) ⊎ ((b ≡ Boleto) ⊎ (b ≡ Collection)) → known b ≡ true
-is_known (inl e) = ap known e
-is_known (inr (inl e)) = ap known e
-is_known (inr (inr e)) = ap known e
 
 -- ---- what a look says, by its case
 

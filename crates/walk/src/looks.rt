@@ -11,7 +11,7 @@ ghost use Rattle.layout.specs.declared.Direction.TheVariants.{Remittance};
 ghost use Rattle.walk.specs.declared.looks.Look.TheVariants.{Fixed};
 
 use answer::{Answer, numbers};
-use layout::{BLANK, Batch, Content, Direction, RECORD_BYTES, ZERO, kinds, places};
+use layout::{BLANK, Content, Direction, RECORD_BYTES, ZERO, kinds, places};
 
 // For digits, for fixed content, or not at all, because the field has been tested whole.
 #[derive(Clone, Copy)]
@@ -68,10 +68,11 @@ fn pair(rec: &[u8; RECORD_BYTES], dir: Direction) -> Answer
 {
     let service = &rec[places::SERVICE_FROM - 1..places::SERVICE_TO];
     let form = &rec[places::SERVICE_TO..places::FORM_TO];
-    match layout::batch_of(dir, service, form) {
-        Batch::Credit | Batch::Boleto | Batch::Collection => Ok(()),
-        Batch::Unknown => answer::refused(numbers::DOMAIN, places::SERVICE_FROM),
-    }
+    answer::test(
+        numbers::DOMAIN,
+        places::SERVICE_FROM,
+        layout::batch_of(dir, service, form).is_some(),
+    )
 }
 
 // How to look at a type or a segment, each of which is its byte.

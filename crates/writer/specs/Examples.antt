@@ -1,6 +1,6 @@
 -- The bounds of number 25, computed at the last numbers of records: one statement over one table. Assumes nothing.
-use Rattle.std.specs.Prelude.{Bool, true, false, not, cond, ◌&&◌, List, [], ◌∷◌, ℕ, T}
-use Rattle.layout.specs.declared.pairs.Batch.TheVariants.{Credit, Boleto, Unknown, Collection}
+use Rattle.std.specs.Prelude.{Bool, true, false, not, cond, ◌&&◌, List, [], ◌∷◌, ℕ, T, None, Some}
+use Rattle.layout.specs.declared.pairs.Batch.TheVariants.{Credit, Boleto, Collection}
 use Rattle.writer.specs.Refusals.{fits_batch, fits_payment}
 
 -- a file with so many records: whether a batch may be opened, of credits, of boletos or of none, and one of collections; and whether a payment of
@@ -21,10 +21,10 @@ agree a b = cond a b (not b)
 
 abbrev pub holds : Row → Bool
 holds x =
-    agree (fits_batch x.records Credit) x.batch
-    && agree (fits_batch x.records Boleto) x.batch
-    && agree (fits_batch x.records Unknown) x.batch
-    && agree (fits_batch x.records Collection) x.collection
+    agree (fits_batch x.records (Some Credit)) x.batch
+    && agree (fits_batch x.records (Some Boleto)) x.batch
+    && agree (fits_batch x.records None) x.batch
+    && agree (fits_batch x.records (Some Collection)) x.collection
     && agree (fits_payment x.records 1) x.one
     && (agree (fits_payment x.records 2) x.two && agree (fits_payment x.records 3) x.three)
 

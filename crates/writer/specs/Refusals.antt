@@ -1,5 +1,5 @@
 -- The refusals of a call, in the paper's order. Assumes nothing.
-use Rattle.std.specs.Prelude.{Bool, true, false, cond, ◌&&◌, List, [], ◌∷◌, ◌++◌, ℕ, ◌+◌, ◌*◌, leb, ltb, length, drop}
+use Rattle.std.specs.Prelude.{Bool, true, false, cond, ◌&&◌, List, [], ◌∷◌, ◌++◌, ℕ, ◌+◌, ◌*◌, leb, ltb, length, drop, Option, is_some}
 use Rattle.answer.specs.Limits.{file_cents, most_records}
 use Rattle.answer.specs.Rules.{Rule, rule, rules_on_line}
 use Rattle.answer.specs.Output.{room}
@@ -11,7 +11,7 @@ use Rattle.layout.specs.declared.Direction.TheVariants.{Remittance, Return}
 use Rattle.layout.specs.declared.Record.{Record}
 use Rattle.layout.specs.declared.Record.TheVariants.{FileHeader, BatchHeader, SegmentZ, BatchTrailer, FileTrailer}
 use Rattle.layout.specs.Names.{name_of}
-use Rattle.layout.specs.Pairs.{pairs, batch_among, known}
+use Rattle.layout.specs.Pairs.{pairs, batch_among}
 use Rattle.layout.specs.declared.pairs.Batch.{Batch}
 use Rattle.fields.specs.Values.{taken_as, number_at}
 use Rattle.fields.specs.declared.Fields.{Fields}
@@ -55,15 +55,15 @@ abbrev pub records_so_far : Checker → ℕ
 records_so_far s = record_count s.closed + record_count s.current
 
 -- the kind of batch that a header's service and form name as they are given
-abbrev pub kind_given : Direction → Fields → Batch
+abbrev pub kind_given : Direction → Fields → Option Batch
 kind_given d v = batch_among (pairs d) (number_at (name_of BatchHeader service_field) v) (number_at (name_of BatchHeader form_field) v)
 
 -- a payment has as many details at least as its kind of batch asks for; and so many where none is named
 abbrev pub details_unnamed : ℕ
 details_unnamed = 2
 
-abbrev pub least_details : Batch → ℕ
-least_details b = cond (known b) (length (payment b)) details_unnamed
+abbrev pub least_details : Option Batch → ℕ
+least_details b = cond (is_some b) (length (payment b)) details_unnamed
 
 -- behind it come the trailers of its batch and of the file
 abbrev pub trailers : ℕ
@@ -73,7 +73,7 @@ trailers = 2
 abbrev pub fits_file : ℕ → ℕ → Bool
 fits_file records more = leb (records + more) most_records
 
-abbrev pub fits_batch : ℕ → Batch → Bool
+abbrev pub fits_batch : ℕ → Option Batch → Bool
 fits_batch records b = fits_file records (1 + least_details b + trailers)
 
 abbrev pub fits_payment : ℕ → ℕ → Bool

@@ -34,7 +34,7 @@ fn is_z(which: Record, dir: Direction) -> bool
 
 // Whether a record is the one that is expected at a position of a payment: the payment's own, or
 // behind the last, in a return, a Z.
-fn is_expected(which: Record, dir: Direction, batch: Batch, position: u8) -> bool
+fn is_expected(which: Record, dir: Direction, batch: Option<Batch>, position: u8) -> bool
     ensures { result ≡ expected_at position dir batch which }
 {
     match checker::record_at(batch, position) {

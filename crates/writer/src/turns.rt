@@ -66,20 +66,16 @@ fn fits_file(m: Checker, more: RecordCount) -> bool
 }
 
 // The kind of batch that a header's service and form name as they are given.
-fn kind_given(dir: Direction, v: Fields) -> Batch
+fn kind_given(dir: Direction, v: Fields) -> Option<Batch>
     ensures { result ≡ kind_given dir v }
 {
-    let Some(service) = v.number_at(names::BATCH_HEADER_SERVICE) else {
-        return Batch::Unknown;
-    };
-    let Some(form) = v.number_at(names::BATCH_HEADER_FORM) else {
-        return Batch::Unknown;
-    };
+    let service = v.number_at(names::BATCH_HEADER_SERVICE)?;
+    let form = v.number_at(names::BATCH_HEADER_FORM)?;
     layout::batch_with(dir, service, form)
 }
 
 // The least records of a payment.
-fn least_details(batch: Batch) -> RecordCount
+fn least_details(batch: Option<Batch>) -> RecordCount
     ensures { (result.0 ≡ least_details batch) × (result.0 ≤ most_details) }
 {
     let records = checker::records_of(batch);

@@ -103,7 +103,7 @@ module _ (r : Record) (d : Direction) (rec : List ℕ) (k : AllKept (rules_of (f
   marks_kept o = rw o.marked ((numbered o o.marked).1.0, tt)
 
 -- what may follow and has right fields is read as it is: Z by its letter, and what begins a payment has another
-not_z : {b : Batch} {n : ℕ} {r : Record} (d : Direction) (rec : List ℕ) → AllKept (rules_of (fields_of r) d rec) → Stands b n r → place segment_place rec ≡ 90 → ⊥
+not_z : {b : Option Batch} {n : ℕ} {r : Record} (d : Direction) (rec : List ℕ) → AllKept (rules_of (fields_of r) d rec) → Stands b n r → place segment_place rec ≡ 90 → ⊥
 not_z {r = r} d rec k g e =
     let letter = letter_at r d rec k (row g).type (row g).marked in
     never (sym (row g).no_z ∙ eq-eqb _ _ (sym letter ∙ e))

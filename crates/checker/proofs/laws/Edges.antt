@@ -66,7 +66,7 @@ each_both : (P : Record → Type 0) (rs qs : List Record) → Each P rs → Each
 each_both P [] qs h k = k
 each_both P (r ∷ rs) qs h k = (h.0, each_both P rs qs h.1 k)
 
-each_at : (b : Batch) (n : ℕ) (P : Record → Type 0) → ((r : Record) → Stands b n r → P r) → Each P (record_at n b)
+each_at : (b : Option Batch) (n : ℕ) (P : Record → Type 0) → ((r : Record) → Stands b n r → P r) → Each P (record_at n b)
 each_at b n P h = go (drop n (payment b)) refl
   where
     go : (rs : List Record) → drop n (payment b) ≡ rs → Each P (take 1 rs)
@@ -74,10 +74,10 @@ each_at b n P h = go (drop n (payment b)) refl
     go (r ∷ rs) e = (h r (record { is = ap (take 1) e }), tt)
 
 -- a payment's first record, or the batch trailer
-each_behind : (b : Batch) (P : Record → Type 0) → ((r : Record) → Stands b 0 r → P r) → P BatchTrailer → Each P (record_at 0 b ++ BatchTrailer ∷ [])
+each_behind : (b : Option Batch) (P : Record → Type 0) → ((r : Record) → Stands b 0 r → P r) → P BatchTrailer → Each P (record_at 0 b ++ BatchTrailer ∷ [])
 each_behind b P h k = each_both P (record_at 0 b) _ (each_at b 0 P h) (k, tt)
 
-each_follows : (p : Phase) (d : Direction) (b : Batch) → Each (Follows d b p) (follows p d b)
+each_follows : (p : Phase) (d : Direction) (b : Option Batch) → Each (Follows d b p) (follows p d b)
 each_follows Start d b = (heads, tt)
 each_follows Headed d b = (first_batch, tt)
 each_follows Opened d b = each_at b 0 (Follows d b Opened) (λ r. pays first_payment)
@@ -138,27 +138,27 @@ no_z type segment later n = go (eqb segment 90) (eqb type (type_of SegmentZ)) re
 
 module _ (type segment : ℕ) where
   -- a record of a payment is read by its type alone
-  reads_at : {b : Batch} {n : ℕ} {r : Record} (later : List Record) → Stands b n r → type ≡ type_of r → read_as type segment (r ∷ later) ≡ Some r
+  reads_at : {b : Option Batch} {n : ℕ} {r : Record} (later : List Record) → Stands b n r → type ≡ type_of r → read_as type segment (r ∷ later) ≡ Some r
   reads_at {r = r} later g e = rw ((row g).needed, eq-eqb type (type_of r) e)
 
   -- a line that is no detail is none of them
-  pub passed_by : (b : Batch) (n : ℕ) (later : List Record) → eqb type (digit_byte 3) ≡ false → read_as type segment (record_at n b ++ later) ≡ read_as type segment later
+  pub passed_by : (b : Option Batch) (n : ℕ) (later : List Record) → eqb type (digit_byte 3) ≡ false → read_as type segment (record_at n b ++ later) ≡ read_as type segment later
   passed_by b n later e = go (drop n (payment b)) refl
     where
       go : (rs : List Record) → drop n (payment b) ≡ rs → read_as type segment (take 1 rs ++ later) ≡ read_as type segment later
       go [] q = refl
       go (r ∷ rs) q = rw ((row {b = b} {n = n} {r = r} (record { is = ap (take 1) q })).type, e, and-false)
 
-  closes_last : (b : Batch) → type ≡ type_of BatchTrailer → read_as type segment (record_at 0 b ++ BatchTrailer ∷ []) ≡ Some BatchTrailer
+  closes_last : (b : Option Batch) → type ≡ type_of BatchTrailer → read_as type segment (record_at 0 b ++ BatchTrailer ∷ []) ≡ Some BatchTrailer
   closes_last b e = passed_by b 0 (BatchTrailer ∷ []) (rw e) ∙ rw e
 
   -- behind a payment, what is no Z is read as if none could stand there
-  no_z_there : (d : Direction) (b : Batch) → (segment ≡ 90 → type ≡ type_of SegmentZ → ⊥)
+  no_z_there : (d : Direction) (b : Option Batch) → (segment ≡ 90 → type ≡ type_of SegmentZ → ⊥)
       → read_as type segment (follows Paid d b) ≡ read_as type segment (record_at 0 b ++ BatchTrailer ∷ [])
   no_z_there Remittance b n = refl
   no_z_there Return b n = no_z type segment _ n
 
-  reads_as : {p : Phase} (d : Direction) (b : Batch) {r : Record} → Follows d b p r → type ≡ type_of r → (r ≡ SegmentZ → segment ≡ 90)
+  reads_as : {p : Phase} (d : Direction) (b : Option Batch) {r : Record} → Follows d b p r → type ≡ type_of r → (r ≡ SegmentZ → segment ≡ 90)
       → (Stands b 0 r → segment ≡ 90 → ⊥) → read_as type segment (follows p d b) ≡ Some r
   reads_as d b heads e z f = rw e
   reads_as d b first_batch e z f = rw e
@@ -188,5 +188,5 @@ pub record Moved (s t : Checker) (p : Phase) : Type 0 where
 pub moved_on : {s t u : Checker} {p q : Phase} → Moved s t p → Moved t u q → Moved s u q
 moved_on m n = record { phase = n.phase; dir = n.dir ∙ m.dir; batch = n.batch ∙ m.batch }
 
-pub stands_moves : {b : Batch} {n : ℕ} {r : Record} (s : Checker) (rec : List ℕ) → Stands b n r → Moved s (next r s rec) (phase_behind n b)
+pub stands_moves : {b : Option Batch} {n : ℕ} {r : Record} (s : Checker) (rec : List ℕ) → Stands b n r → Moved s (next r s rec) (phase_behind n b)
 stands_moves {r = r} s rec g = rw ((detail_of r (row g).type).moves s rec) (record { phase = (row g).phase; dir = refl; batch = refl })

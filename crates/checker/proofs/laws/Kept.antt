@@ -1,5 +1,5 @@
 -- What every line keeps, by phase: bounds on what is counted, from which the state is sound. Assumes nothing.
-use Rattle.std.specs.Prelude.{◌≡◌, Bool, true, false, cond, List, ℕ, suc, ◌+◌, ◌-◌, ◌*◌, ◌^◌, ◌≤◌, ◌<◌, ltb, length, Err, Ok}
+use Rattle.std.specs.Prelude.{◌≡◌, Bool, true, false, cond, List, ℕ, suc, ◌+◌, ◌-◌, ◌*◌, ◌^◌, ◌≤◌, ◌<◌, ltb, length, Err, Ok, Option}
 use Rattle.std.proofs.Math.Path.{refl}
 use native.Mathlib.Omega.{arith}
 use Rattle.std.proofs.Common.{length-take}
@@ -89,7 +89,7 @@ in-batch at_paid = (refl, refl)
 in-batch at_behind_z = (refl, refl)
 
 -- behind a record of a payment there may be so many records fewer; the first adds those of a payment
-fewer : {b : Batch} {n : ℕ} {r : Record} → Stands b n r → suc (stage (phase_behind n b)).spare + n ≤ most_details
+fewer : {b : Option Batch} {n : ℕ} {r : Record} → Stands b n r → suc (stage (phase_behind n b)).spare + n ≤ most_details
 fewer {b} {n} g = go (ltb (suc n) (length (payment b)))
   where
     go : (more : Bool) → suc (stage (cond more (Within (suc n)) Paid)).spare + n ≤ most_details
@@ -107,12 +107,12 @@ module _ (s : Checker) (rec : List ℕ) where
       let opens = o.opens in
       rw (o.moves s rec) (omega (arith, small r rec))
 
-  stands_keeps : {b : Batch} {p : Phase} {n : ℕ} {r : Record} → Stands b n r → (stage p).own ≡ 1 → (stage p).opened ≡ 1
+  stands_keeps : {b : Option Batch} {p : Phase} {n : ℕ} {r : Record} → Stands b n r → (stage p).own ≡ 1 → (stage p).opened ≡ 1
       → most_details ≤ (stage p).spare + n + most_details * begun_at n → Limit r s → KeptAt p s → Kept (next r s rec)
   stands_keeps {n = n} {r} g own opened room =
       detail_keeps r (detail_of r (row g).type) own opened (rw ((row g).phase, (row g).begins) (omega (arith, fewer g)))
 
-  kept_by : {d : Direction} {b : Batch} {p : Phase} {r : Record} → Follows d b p r → Limit r s → KeptAt p s → Kept (next r s rec)
+  kept_by : {d : Direction} {b : Option Batch} {p : Phase} {r : Record} → Follows d b p r → Limit r s → KeptAt p s → Kept (next r s rec)
   unfolding add
   kept_by heads m h = omega arith
   kept_by first_batch m h = omega arith

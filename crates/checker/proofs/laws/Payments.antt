@@ -1,13 +1,12 @@
 -- The records of a payment: what is so of each by its position, tested once over the lists, and carried to the record at any position. Assumes nothing.
-use Rattle.std.specs.Prelude.{◌≡◌, refl, true, false, cond, List, [], ◌∷◌, ◌++◌, ℕ, zero, suc, ◌+◌, ◌<◌, ◌≤◌, ltb, eqb, length, take, drop}
+use Rattle.std.specs.Prelude.{◌≡◌, refl, true, false, cond, List, [], ◌∷◌, ◌++◌, ℕ, zero, suc, ◌+◌, ◌<◌, ◌≤◌, ltb, eqb, length, take, drop, None, Option, Some, is_some}
 use Rattle.std.proofs.Common.{sym, ap, subst, ◌∙◌, add-one, arith, ltb-true, length-drop, take-add}
 use Rattle.digits.specs.Digits.{digit_byte}
-use Rattle.layout.specs.Pairs.{known}
 use Rattle.layout.specs.Records.{type_of, letter_z}
 use Rattle.layout.specs.Table.{segment_field, segment_fields}
 use Rattle.layout.specs.declared.Record.{Record}
 use Rattle.layout.specs.declared.pairs.Batch.{Batch}
-use Rattle.layout.specs.declared.pairs.Batch.TheVariants.{Credit, Boleto, Unknown, Collection}
+use Rattle.layout.specs.declared.pairs.Batch.TheVariants.{Credit, Boleto, Collection}
 use Rattle.checker.specs.Order.{payment, optional}
 use Rattle.layout.specs.Records.{after}
 use Rattle.checker.specs.Totals.{payments_of}
@@ -22,11 +21,11 @@ begun_at zero = 1
 begun_at (suc n) = 0
 
 -- behind a record more come, or the payment is made
-abbrev pub phase_behind : ℕ → Batch → Phase
+abbrev pub phase_behind : ℕ → Option Batch → Phase
 phase_behind n b = cond (ltb (suc n) (length (payment b))) (Within (suc n)) Paid
 
 -- a detail, known by its place, with another letter than Z's; what it begins; and the phase behind it
-pub record Row (b : Batch) (n : ℕ) (r : Record) : Type 0 where
+pub record Row (b : Option Batch) (n : ℕ) (r : Record) : Type 0 where
   pub type : type_of r ≡ digit_byte 3
   pub needed : optional r ≡ false
   pub letter : ℕ
@@ -42,32 +41,32 @@ abbrev EachAt : (ℕ → Record → Type 0) → List Record → Type 0
 EachAt P [] = Unit {0}
 EachAt P (r ∷ rs) = P 0 r × EachAt (λ n. P (suc n)) rs
 
-fits : {b : Batch} {n letter : ℕ} {r : Record} → type_of r ≡ digit_byte 3 → optional r ≡ false → segment_fields r ≡ segment_field letter ∷ [] → eqb letter letter_z ≡ false
+fits : {b : Option Batch} {n letter : ℕ} {r : Record} → type_of r ≡ digit_byte 3 → optional r ≡ false → segment_fields r ≡ segment_field letter ∷ [] → eqb letter letter_z ≡ false
     → payments_of r ≡ begun_at n → after r ≡ phase_behind n b → Row b n r
 fits {letter = l} t o m z p a = record { type = t; needed = o; letter = l; marked = m; no_z = z; begins = p; phase = a }
 
 -- the phases of the table agree with the lists, and so do types and counts
-rows : (b : Batch) → EachAt (Row b) (payment b)
-rows Credit = (fits refl refl refl refl refl refl, (fits refl refl refl refl refl refl, tt))
-rows Boleto = (fits refl refl refl refl refl refl, (fits refl refl refl refl refl refl, tt))
-rows Unknown = tt
-rows Collection = (fits refl refl refl refl refl refl, tt)
+rows : (b : Option Batch) → EachAt (Row b) (payment b)
+rows (Some Credit) = (fits refl refl refl refl refl refl, (fits refl refl refl refl refl refl, tt))
+rows (Some Boleto) = (fits refl refl refl refl refl refl, (fits refl refl refl refl refl refl, tt))
+rows (Some Collection) = (fits refl refl refl refl refl refl, tt)
+rows None = tt
 
 -- with a Z a payment has no more records than it may have
-pub brief : (b : Batch) → length (payment b) + 1 ≤ most_details
-brief Credit = omega arith
-brief Boleto = omega arith
-brief Unknown = omega arith
-brief Collection = omega arith
+pub brief : (b : Option Batch) → length (payment b) + 1 ≤ most_details
+brief (Some Credit) = omega arith
+brief (Some Boleto) = omega arith
+brief (Some Collection) = omega arith
+brief None = omega arith
 
--- a kind of batch that is known has a payment, and no other has
-pub known_paid : (b : Batch) → known b ≡ ltb 0 (length (payment b))
-known_paid Credit = refl
-known_paid Boleto = refl
-known_paid Unknown = refl
-known_paid Collection = refl
+-- a kind of batch has a payment, and where there is none there is no payment
+pub known_paid : (b : Option Batch) → is_some b ≡ ltb 0 (length (payment b))
+known_paid (Some Credit) = refl
+known_paid (Some Boleto) = refl
+known_paid (Some Collection) = refl
+known_paid None = refl
 
-pub some_paid : (b : Batch) → known b ≡ true → 1 ≤ length (payment b)
+pub some_paid : (b : Option Batch) → is_some b ≡ true → 1 ≤ length (payment b)
 some_paid b e = ltb-true 0 (length (payment b)) (sym (known_paid b) ∙ e)
 
 -- ---- carried
@@ -84,7 +83,7 @@ of_each P (suc n) [] h e = absurd (none_there e)
 of_each P zero (x ∷ rs) h e = subst (P 0) (head_of e) h.0
 of_each P (suc n) (x ∷ rs) h e = of_each (λ n. P (suc n)) n rs h.1 e
 
-module _ {b : Batch} {n : ℕ} {r : Record} (g : Stands b n r) where
+module _ {b : Option Batch} {n : ℕ} {r : Record} (g : Stands b n r) where
   pub row : Row b n r
   row = of_each (Row b) n (payment b) (rows b) g.is
 
@@ -100,5 +99,5 @@ module _ {b : Batch} {n : ℕ} {r : Record} (g : Stands b n r) where
   up_to = rw (← add-one n, take-add n 1 (payment b), g.is)
 
 -- two that stand at one position are one
-pub one_stands : {b : Batch} {n : ℕ} {r q : Record} → Stands b n r → Stands b n q → r ≡ q
+pub one_stands : {b : Option Batch} {n : ℕ} {r q : Record} → Stands b n r → Stands b n q → r ≡ q
 one_stands g h = head_of (sym g.is ∙ h.is)

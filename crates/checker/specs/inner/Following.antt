@@ -1,5 +1,5 @@
 -- Which record a line may be, by phase, direction and kind of batch, and within which limit. Assumes nothing.
-use Rattle.std.specs.Prelude.{◌≡◌, [], ◌∷◌, ℕ, ◌+◌, ◌≤◌, ◌<◌}
+use Rattle.std.specs.Prelude.{◌≡◌, [], ◌∷◌, ℕ, ◌+◌, ◌≤◌, ◌<◌, Option}
 use Rattle.answer.specs.Limits.{file_cents}
 use Rattle.layout.specs.Records.{shape_of}
 use Rattle.layout.specs.declared.Direction.{Direction}
@@ -17,7 +17,7 @@ use Rattle.checker.specs.Line.{ordinal, most_batches, most_payments}
 use Rattle.checker.specs.declared.Checker.{Checker}
 
 -- a record stands at a position of a payment
-pub record Stands (b : Batch) (n : ℕ) (r : Record) : Type 0 where
+pub record Stands (b : Option Batch) (n : ℕ) (r : Record) : Type 0 where
   pub is : record_at n b ≡ r ∷ []
 
 -- the position in a payment that is next in a phase
@@ -27,7 +27,7 @@ pub data Next : Phase → ℕ → Type 0 where
   pays_behind : Next Paid 0
   pays_behind_z : Next BehindZ 0
 
-pub data Follows (d : Direction) (b : Batch) : Phase → Record → Type 0 where
+pub data Follows (d : Direction) (b : Option Batch) : Phase → Record → Type 0 where
   heads : Follows d b Start FileHeader
   first_batch : Follows d b Headed BatchHeader
   pays : {p : Phase} {n : ℕ} {r : Record} → Next p n → Stands b n r → Follows d b p r

@@ -1,5 +1,5 @@
 -- What a field's bytes are where its rules are kept, and what is refused where they are no number. Assumes nothing.
-use Rattle.std.specs.Prelude.{◌≡◌, refl, Bool, true, false, cond, not, ◌||◌, List, [], ◌∷◌, ◌++◌, ℕ, zero, suc, ◌≤◌, ◌<◌, T, eqb, length, get_or, take, drop, None, Ok, Option, Some}
+use Rattle.std.specs.Prelude.{◌≡◌, refl, Bool, true, false, cond, not, ◌||◌, List, [], ◌∷◌, ◌++◌, ℕ, zero, suc, ◌≤◌, ◌<◌, T, eqb, length, get_or, take, drop, None, Ok, Option, Some, is_some}
 use Rattle.std.proofs.Common.{sym, ap, subst, ◌∙◌, append_assoc, not-suc-le-zero, le_of_suc-le-suc, arith, leb→le, eqb→eq, length-take}
 use borrow.Author.Tests.{eqb-true}
 use Rattle.answer.specs.Rules.{Rule, rule, first_broken, AllKept, refused_as}
@@ -10,7 +10,7 @@ use Rattle.digits.proofs.laws.Tests.{both}
 use Rattle.digits.proofs.laws.Strings.{Digit, Digits, head, rest, leading_all}
 use Rattle.digits.proofs.laws.Numerals.{digits_give}
 use Rattle.calendar.specs.Calendar.{number_fits, date_fits, time_fits}
-use Rattle.layout.specs.Pairs.{Pairs, pairs, among, batch_among, batch_of, known}
+use Rattle.layout.specs.Pairs.{Pairs, pairs, among, batch_among, batch_of}
 use Rattle.layout.specs.Field.{Kind, N, NOrBlank, Id, T as Text, F, D, Time, K, O, Zeros, Exact, OneOf, Service, Form, Barcode, Code, RecordType, Segment, Field, field, part, none}
 use Rattle.layout.specs.Table.{fields_of, record_bytes, service_field, form_field}
 use Rattle.layout.specs.Kinds.{Presence, perhaps, Held, a_number, as_number_if_given, as_bytes, as_fixed, means, blank, run, is_fixed, number_or_blank, one_of}
@@ -59,11 +59,11 @@ one_some domain bs t e =
     digits_some bs (record { each = λ i h. let z : i ≡ 0 = omega arith in rw z d }) (omega arith)
 
 -- each half of a pair
-service_some : (ps : List Pairs) (service form : Option ℕ) → known (batch_among ps service form) ≡ true → IsNumber service
+service_some : (ps : List Pairs) (service form : Option ℕ) → is_some (batch_among ps service form) ≡ true → IsNumber service
 service_some ps (Some n) form e = record { value = n; is = refl }
 service_some ps None form e = never (rw (no_service ps form) at e)
 
-form_some : (ps : List Pairs) (service form : Option ℕ) → known (batch_among ps service form) ≡ true → IsNumber form
+form_some : (ps : List Pairs) (service form : Option ℕ) → is_some (batch_among ps service form) ≡ true → IsNumber form
 form_some ps service (Some n) e = record { value = n; is = refl }
 form_some ps service None e = never (rw (no_form ps service) at e)
 

@@ -13,7 +13,6 @@ use Rattle.layout.specs.Pairs.{Pairs, pairs, among, batch_among, batch_of}
 use Rattle.layout.specs.Kinds.{same, run, blank, is_fixed, number_or_blank}
 use Rattle.layout.specs.Record.{printable, clean, all_printable}
 use Rattle.layout.specs.declared.Direction.{Direction}
-use Rattle.layout.specs.declared.pairs.Batch.TheVariants.{Unknown}
 
 -- ---- the same bytes
 
@@ -69,11 +68,11 @@ pub among_turn : (b : ℕ) (ds : List ℕ) (i : ℕ) → i < length ds → among
 among_turn b ds i h = rw (drop-cons ds i 0 h)
 
 -- without a number for the service or the form there is no batch
-pub no_service : (ps : List Pairs) (form : Option ℕ) → batch_among ps None form ≡ Unknown
+pub no_service : (ps : List Pairs) (form : Option ℕ) → batch_among ps None form ≡ None
 no_service [] form = refl
 no_service (p ∷ ps) form = no_service ps form
 
-pub no_form : (ps : List Pairs) (service : Option ℕ) → batch_among ps service None ≡ Unknown
+pub no_form : (ps : List Pairs) (service : Option ℕ) → batch_among ps service None ≡ None
 no_form [] service = refl
 no_form (p ∷ ps) service = rw (and-false (number_fits (λ n. eqb n p.service) service)) (no_form ps service)
 

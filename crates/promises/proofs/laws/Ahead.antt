@@ -1,5 +1,5 @@
 -- What a state has ahead of it on the way to the end of an accepted file: the sum stays below its limit, and so many lines follow. Assumes nothing.
-use Rattle.std.specs.Prelude.{◌≡◌, true, List, [], ◌∷◌, ℕ, suc, ◌+◌, ◌-◌, ◌≤◌, ◌<◌, length}
+use Rattle.std.specs.Prelude.{◌≡◌, true, List, [], ◌∷◌, ℕ, suc, ◌+◌, ◌-◌, ◌≤◌, ◌<◌, length, Option}
 use Rattle.std.proofs.Common.{ap, arith, lt-ltb, le-ltb}
 use Rattle.std.proofs.Math.Decide.{dec_lt}
 use Rattle.answer.specs.Limits.{file_cents}
@@ -48,7 +48,7 @@ sum_below (l ∷ ls) {s} e =
 
 -- ---- the lines that close the file follow
 
-none_left : (p : Phase) (b : Batch) → ended p ≡ true → reserve p b ≤ 0
+none_left : (p : Phase) (b : Option Batch) → ended p ≡ true → reserve p b ≤ 0
 none_left Start b e = never e
 none_left Headed b e = never e
 none_left Opened b e = never e
@@ -59,13 +59,13 @@ none_left Closed b e = never e
 none_left Ended b e = omega arith
 
 -- the records of a payment from a position on
-from_there : {p : Phase} {n : ℕ} (b : Batch) → Next p n → reserve p b ≤ (least_details b - n) + trailers
+from_there : {p : Phase} {n : ℕ} (b : Option Batch) → Next p n → reserve p b ≤ (least_details b - n) + trailers
 from_there b first_payment = omega arith
 from_there b goes_on = omega arith
 from_there b pays_behind = omega arith
 from_there b pays_behind_z = omega arith
 
-one_fewer : {b : Batch} {n : ℕ} {r : Record} → Stands b n r → (least_details b - n) + trailers ≤ suc (reserve (phase_behind n b) b)
+one_fewer : {b : Option Batch} {n : ℕ} {r : Record} → Stands b n r → (least_details b - n) + trailers ≤ suc (reserve (phase_behind n b) b)
 one_fewer {b} {n} g = go (dec_lt (suc n) (length (payment b)))
   where
     least : length (payment b) ≡ least_details b

@@ -1,5 +1,5 @@
 -- Lines on the way to the end of an accepted file: each is taken, and the direction is that of the file header. Assumes nothing.
-use Rattle.std.specs.Prelude.{◌≡◌, refl, true, ◌⊎◌, ℕ, get_or, Some}
+use Rattle.std.specs.Prelude.{◌≡◌, refl, true, ◌⊎◌, ℕ, get_or, Some, Option}
 use Rattle.std.proofs.Common.{sym, ap, ◌∙◌, inl, inr, arith}
 use Rattle.std.proofs.Math.Path.{subst}
 use mathlib.Core.List.{List, [], ◌∷◌, ◌++◌}
@@ -73,7 +73,7 @@ module _ (ys : List (List ℕ)) where
       let on = settled_next (goes e).0 s (record_in x) g.follows h in
       subst (λ (t : Checker). Settled d (left t xs)) (sym g.moves) (still xs on g.rest)
 
-first : {d : Direction} {b : Batch} {r : Record} → Follows d b Start r → r ≡ FileHeader
+first : {d : Direction} {b : Option Batch} {r : Record} → Follows d b Start r → r ≡ FileHeader
 first heads = refl
 first (pays x _) = elim x [ ]
 

@@ -1,5 +1,5 @@
 -- A file of the grammar passes through the checker, line by line, with its totals. Assumes nothing.
-use Rattle.std.specs.Prelude.{◌≡◌, List, [], ◌∷◌, ℕ, ◌+◌, ◌≤◌, ◌<◌}
+use Rattle.std.specs.Prelude.{◌≡◌, List, [], ◌∷◌, ℕ, ◌+◌, ◌≤◌, ◌<◌, None, Option}
 use Rattle.std.proofs.Math.Path.{refl}
 use Rattle.std.proofs.Common.{ap, ◌∙◌, zero-add, arith}
 use Rattle.std.proofs.Math.ListN.{length, length-append}
@@ -11,7 +11,6 @@ use Rattle.layout.specs.declared.Direction.{Direction}
 use Rattle.layout.specs.declared.Record.{Record}
 use Rattle.layout.specs.declared.Record.TheVariants.{FileHeader, BatchHeader, BatchTrailer, FileTrailer}
 use Rattle.layout.specs.declared.pairs.Batch.{Batch}
-use Rattle.layout.specs.declared.pairs.Batch.TheVariants.{Unknown}
 use Rattle.layout.specs.Records.{after}
 use Rattle.checker.specs.Totals.{totals, bare, none, add, payment_count, cent_sum, counts}
 use Rattle.checker.specs.Line.{record_in, most_batches, most_payments}
@@ -47,13 +46,13 @@ reached_as c on = through_reached c (accepted_as on)
 -- ---- the payments of a batch
 
 -- from a phase up to where the batch may close: so many lines and payments more
-record Detailed (p : Phase) (d : Direction) (b : Batch) (n : ℕ) (x y : Totals) (rs : List Record) (ls : List (List ℕ)) : Type 0 where
+record Detailed (p : Phase) (d : Direction) (b : Option Batch) (n : ℕ) (x y : Totals) (rs : List Record) (ls : List (List ℕ)) : Type 0 where
   to : Phase
   closes : Follows d b to BatchTrailer
   through : ThroughAs (state p d b n x y) ls rs (state to d b n x (add y (among (length ls) rs ls)))
 
 -- the lines of payments, numbered from what the open batch counts
-module _ {d : Direction} {b : Batch} {n : ℕ} {x : Totals} where
+module _ {d : Direction} {b : Option Batch} {n : ℕ} {x : Totals} where
   details_through : {p : Phase} {m k c : ℕ} {rs : List Record} {ls : List (List ℕ)} (y : Totals) → Tail d b p k rs → Details d n (x.batches + 1) m rs ls c
       → y.records.0 ≡ m → payment_count y + k ≤ most_payments → Reached (state p d b n x y) → Detailed p d b n x y rs ls
   unfolding add AllRead live_among withdrawn_among
@@ -76,10 +75,10 @@ module _ {d : Direction} {b : Batch} {n : ℕ} {x : Totals} where
 -- ---- a batch
 
 -- a header, the payments and a trailer, behind batches that count x
-module _ {d : Direction} {b : Batch} {n : ℕ} {x : Totals} where
+module _ {d : Direction} {b : Option Batch} {n : ℕ} {x : Totals} where
   batch_through : {p : Phase} {m : ℕ} {ls : List (List ℕ)} {t : Totals} (w : RightBatch d n m ls t) → x.batches + 1 ≡ m → Follows d b p BatchHeader
       → x.batches + 1 ≤ most_batches → cent_sum x + cent_sum t < file_cents → Reached (state p d b n x none)
-      → ThroughAs (state p d b n x none) ls (records_in_batch w) (state Closed d Unknown n (add x t) none)
+      → ThroughAs (state p d b n x none) ls (records_in_batch w) (state Closed d None n (add x t) none)
   unfolding add AllRead
   batch_through {p} {m} {ls} {t} w o f few below at =
       let h = w.header_right in
@@ -103,16 +102,16 @@ module _ {d : Direction} {b : Batch} {n : ℕ} {x : Totals} where
 -- ---- batches
 
 -- from a phase where a batch may begin, and the file may end if there is none
-batches_through : {d : Direction} {n : ℕ} {p : Phase} {b : Batch} {m : ℕ} {ls : List (List ℕ)} {t : Totals} (x : Totals) (w : Batches d n m ls t)
-    → Follows d b p BatchHeader → (t.batches ≡ 0 → ThroughAs (state p d b n x none) [] [] (state Closed d Unknown n x none))
+batches_through : {d : Direction} {n : ℕ} {p : Phase} {b : Option Batch} {m : ℕ} {ls : List (List ℕ)} {t : Totals} (x : Totals) (w : Batches d n m ls t)
+    → Follows d b p BatchHeader → (t.batches ≡ 0 → ThroughAs (state p d b n x none) [] [] (state Closed d None n x none))
     → x.batches ≡ m → x.batches + t.batches ≤ most_batches → cent_sum x + cent_sum t < file_cents → Reached (state p d b n x none)
-    → ThroughAs (state p d b n x none) ls (records_in_batches w) (state Closed d Unknown n (add x t) none)
+    → ThroughAs (state p d b n x none) ls (records_in_batches w) (state Closed d None n (add x t) none)
 unfolding add
 batches_through {p = p} {b = b} x no_batches f stop e few below at = rw (add_none x) (stop refl)
 batches_through {d = d} {n = n} {p = p} {b = b} x (batch {ls = ls} {t = t} {u = u} w ws) f stop e few below at =
     let z = ap (λ (t : Totals). t.batches) w.are in
     let first = batch_through w (ap (λ (k : ℕ). k + 1) e) f (omega arith) (omega arith) at in
-    let later = batches_through {p = Closed} {b = Unknown} (add x t) ws next_batch (λ z. here) (omega arith) (omega arith) (omega arith) (reached_as at first) in
+    let later = batches_through {p = Closed} {b = None} (add x t) ws next_batch (λ z. here) (omega arith) (omega arith) (omega arith) (reached_as at first) in
     rw (← add_assoc x t u) (as_append first later)
 
 -- ---- a file
@@ -125,7 +124,7 @@ built_as {ls} {t} w =
     let heading : Fits FileHeader start w.header = record { right = either_direction h.right; numbers = (h.batch_is, tt); limit = tt } in
     let bank : w.bank ≡ value (part bank_field (record_in w.header)) = cc (header_bank h.right, h.bank_is) in
     let x = bare 0 1 in
-    let first : ThroughAs start (w.header ∷ []) (FileHeader ∷ []) (state Headed w.direction Unknown w.bank x none) =
+    let first : ThroughAs start (w.header ∷ []) (FileHeader ∷ []) (state Headed w.direction None w.bank x none) =
     rw (w.direction_is, bank) (one at_start heads heading) in
     let batches =
     batches_through x w.batches_right first_batch (λ z. absurd (omega (arith, w.some))) refl (omega (arith, w.most)) (omega (arith, w.below))
@@ -133,7 +132,7 @@ built_as {ls} {t} w =
     let inside = as_append first batches in
     let long : length ls ≡ 1 + w.inside.records.0 + 1 =
     rw (w.lines, length-append w.middle (w.trailer ∷ [])) (omega (arith, batches_long w.batches_right)) in
-    let s = state Closed w.direction Unknown w.bank (add x w.inside) none in
+    let s = state Closed w.direction None w.bank (add x w.inside) none in
     let e = w.trailer_right in
     let ending : Fits FileTrailer s w.trailer =
     record {

@@ -1,5 +1,5 @@
 -- Demand 3: an accepted file with another byte at a guarded place is refused. Assumes nothing.
-use Rattle.std.specs.Prelude.{◌≡◌, refl, ◌≢◌, ◌⊎◌, ℕ, zero, suc, ◌+◌, ◌*◌, ◌-◌, ◌≤◌, ◌<◌, length, get_or, take, drop, set, Err, Ok, Some}
+use Rattle.std.specs.Prelude.{◌≡◌, refl, ◌≢◌, ◌⊎◌, ℕ, zero, suc, ◌+◌, ◌*◌, ◌-◌, ◌≤◌, ◌<◌, length, get_or, take, drop, set, Err, Ok, Some, Option}
 use Rattle.std.proofs.Common.{sym, ap, ◌∙◌, subst, inl, inr, arith, length-take, length-drop, length-set, length-append, take-append-drop, length-take-le, take_at, take-take, get_or-take, drop-set-lt, get_or-set_same}
 use mathlib.Core.List.{List, [], ◌∷◌, ◌++◌, flatten}
 use Rattle.std.proofs.Math.Decide.{dec_le}
@@ -65,7 +65,7 @@ module _ {p : ℕ} {r : Record} {s : Checker} {ls : List (List ℕ)} (l l' : Lis
   not_number : type_of r ≡ digit_byte 3 → In number_field p → ⊥
   not_number e h = unread refl (subst (Among p) (sym ((detail_of r e).asks s)) (later (later (this h))))
 
-  not_guarded : {dir : Direction} {kind : Batch} (b : ℕ) → l' ≡ set l (p - 1) b → b ≢ place p (record_in l) → p ≤ record_bytes
+  not_guarded : {dir : Direction} {kind : Option Batch} (b : ℕ) → l' ≡ set l (p - 1) b → b ≢ place p (record_in l) → p ≤ record_bytes
       → RightLine r dir l → RightLine r dir l' → Guarded dir kind r l p → ⊥
   not_guarded b q ne few a a' (line-end h) = omega arith
   not_guarded b q ne few a a' (first_eight h) = not_first h
@@ -81,7 +81,7 @@ module _ {p : ℕ} {r : Record} {s : Checker} {ls : List (List ℕ)} (l l' : Lis
   not_guarded {dir} b q ne few a a' (barcode e h at) = not_barcode l p b (right_as l e a) (subst (RightLine SegmentJ dir) q (right_as l' e a')) h at ne
 
 -- a guarded place is a place of a line
-counted : {dir : Direction} {kind : Batch} {r : Record} {l : List ℕ} {p : ℕ} → Guarded dir kind r l p → (1 ≤ p) × (p ≤ line_bytes)
+counted : {dir : Direction} {kind : Option Batch} {r : Record} {l : List ℕ} {p : ℕ} → Guarded dir kind r l p → (1 ≤ p) × (p ≤ line_bytes)
 counted (line-end h) = omega arith
 counted (first_eight h) = omega arith
 counted (detail_number e h) = omega arith
@@ -96,7 +96,7 @@ counted (file_trailer e h) = omega arith
 counted (barcode e h q) = let i = in_barcode h in omega arith
 
 -- a guarded letter
-letter_guarded : {dir : Direction} {kind : Batch} {r : Record} {l : List ℕ} {p : ℕ} → Guarded dir kind r l p → type_of r ≡ digit_byte 3 → p ≡ segment_place
+letter_guarded : {dir : Direction} {kind : Option Batch} {r : Record} {l : List ℕ} {p : ℕ} → Guarded dir kind r l p → type_of r ≡ digit_byte 3 → p ≡ segment_place
     → LetterGuarded dir kind
 letter_guarded (line-end h) e q = absurd (omega arith)
 letter_guarded (first_eight h) e q = absurd (omega arith)

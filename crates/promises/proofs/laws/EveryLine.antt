@@ -1,6 +1,6 @@
 -- Every line of an accepted file is read as the record that the grammar gives to it; so its places 1 to 8 and its line ends are guarded.
 -- Assumes nothing.
-use Rattle.std.specs.Prelude.{◌≡◌, refl, ◌≢◌, ◌⊎◌, ℕ, ◌*◌, ◌≤◌, ◌<◌, length, get_or, Err, Ok}
+use Rattle.std.specs.Prelude.{◌≡◌, refl, ◌≢◌, ◌⊎◌, ℕ, ◌*◌, ◌≤◌, ◌<◌, length, get_or, Err, Ok, Option}
 use Rattle.std.proofs.Common.{sym, ap, ◌∙◌, subst, inl, inr, ⊎_elim, arith, length-append}
 use mathlib.Core.List.{List, flatten}
 use Rattle.answer.specs.declared.Refusal.{Refusal}
@@ -59,7 +59,7 @@ module _ (file : List ℕ) (t : Totals) (n p : ℕ) (e : check_file file ≡ Ok 
       m : Meets file t
       m = (accepted_exactly file t).0 e
 
-      listed : {b : Batch} {r : Record} {l : List ℕ} → On 1 8 p ⊎ On 241 242 p → Guarded (direction_of (record_in file)) b r l p
+      listed : {b : Option Batch} {r : Record} {l : List ℕ} → On 1 8 p ⊎ On 241 242 p → Guarded (direction_of (record_in file)) b r l p
       listed {l = l} (inl h) = (as_listed _ _ l p).every_line h
       listed {l = l} (inr h) = (as_listed _ _ l p).ends h
 

@@ -1,5 +1,5 @@
 -- The guarded places in the paper's own numbers, sentence by sentence: none of its list is left out. Assumes nothing.
-use Rattle.std.specs.Prelude.{◌≡◌, refl, ◌≢◌, ◌⊎◌, List, ℕ, ◌-◌, ◌≤◌}
+use Rattle.std.specs.Prelude.{◌≡◌, refl, ◌≢◌, ◌⊎◌, List, ℕ, ◌-◌, ◌≤◌, Option, Some}
 use Rattle.std.proofs.Math.Path.{subst⁻¹}
 use Rattle.std.proofs.Common.{inl, inr, arith, lit≤}
 use Rattle.std.proofs.Math.Decide.{dec_le}
@@ -18,12 +18,12 @@ use Rattle.layout.specs.declared.pairs.Batch.TheVariants.{Credit, Boleto}
 use Rattle.checker.specs.Line.{record_in}
 use Rattle.promises.specs.Guarded.{On, In, FieldOf, Fixed, blanks, zeros, exact, optional, LetterGuarded, in_remittance, of_credits, of_boletos, Guarded, line-end, first_eight, detail_number, letter, fixed, credit-amount, boleto_values, boleto-amount, collection-amount, batch_trailer, file_trailer, barcode}
 
-pub record AsListed (d : Direction) (b : Batch) (l : List ℕ) (p : ℕ) : Type 0 where
+pub record AsListed (d : Direction) (b : Option Batch) (l : List ℕ) (p : ℕ) : Type 0 where
   pub ends : {r : Record} → On 241 242 p → Guarded d b r l p
   pub every_line : {r : Record} → On 1 8 p → Guarded d b r l p
   pub details : {r : Record} → type_of r ≡ digit_byte 3 → On 9 13 p → Guarded d b r l p
   pub letter_remitted : {r : Record} → type_of r ≡ digit_byte 3 → d ≡ Remittance → p ≡ 14 → Guarded d b r l p
-  pub letter_of_two : {r : Record} → type_of r ≡ digit_byte 3 → (b ≡ Credit) ⊎ (b ≡ Boleto) → p ≡ 14 → Guarded d b r l p
+  pub letter_of_two : {r : Record} → type_of r ≡ digit_byte 3 → (b ≡ Some Credit) ⊎ (b ≡ Some Boleto) → p ≡ 14 → Guarded d b r l p
   pub blank : {r : Record} {f : Field} → FieldOf r f → f.kind ≡ K → In f p → Guarded d b r l p
   pub zero : {r : Record} {f : Field} → FieldOf r f → f.kind ≡ Zeros → In f p → Guarded d b r l p
   pub exactly : {r : Record} {f : Field} {bs : List ℕ} → FieldOf r f → f.kind ≡ Exact bs → In f p → Guarded d b r l p
@@ -41,7 +41,7 @@ pub record AsListed (d : Direction) (b : Batch) (l : List ℕ) (p : ℕ) : Type 
 check_at : (l : List ℕ) → place 5 (part barcode_field (record_in l)) ≡ place 22 (record_in l)
 check_at l = part_get_or (record_in l) 17 44 21 0 (lit≤ tt) (lit≤ tt)
 
-pub as_listed : (d : Direction) (b : Batch) (l : List ℕ) (p : ℕ) → AsListed d b l p
+pub as_listed : (d : Direction) (b : Option Batch) (l : List ℕ) (p : ℕ) → AsListed d b l p
 as_listed d b l p =
     record {
       ends = line-end;
@@ -63,7 +63,7 @@ as_listed d b l p =
       currency_and_check = λ h. one_of (dec_le p 21) h;
     }
   where
-    of_two : (b ≡ Credit) ⊎ (b ≡ Boleto) → LetterGuarded d b
+    of_two : (b ≡ Some Credit) ⊎ (b ≡ Some Boleto) → LetterGuarded d b
     of_two (inl q) = rw q of_credits
     of_two (inr q) = rw q of_boletos
 

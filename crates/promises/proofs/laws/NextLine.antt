@@ -1,6 +1,6 @@
 -- Changes that only later lines show: the file header's bank, a Z for a payment's first record, the amount of a credit or of a collection.
 -- Assumes nothing.
-use Rattle.std.specs.Prelude.{◌≡◌, ◌≢◌, ◌⊎◌, true, List, [], ◌∷◌, ℕ, ◌-◌, ◌≤◌, eqb, length}
+use Rattle.std.specs.Prelude.{◌≡◌, ◌≢◌, ◌⊎◌, true, List, [], ◌∷◌, ℕ, ◌-◌, ◌≤◌, eqb, length, None, Option, Some}
 use Rattle.std.proofs.Math.Path.{refl}
 use Rattle.std.proofs.Common.{sym, ap, ◌∙◌, subst, subst₂, inl, inr, ⊎_elim, arith, eqb-true, lit≤}
 use Rattle.answer.specs.Rules.{AllKept}
@@ -17,7 +17,7 @@ use Rattle.layout.specs.declared.Direction.TheVariants.{Return}
 use Rattle.layout.specs.declared.Record.{Record}
 use Rattle.layout.specs.declared.Record.TheVariants.{FileHeader, BatchHeader, SegmentA, SegmentB, SegmentZ, BatchTrailer, SegmentO}
 use Rattle.layout.specs.declared.pairs.Batch.{Batch}
-use Rattle.layout.specs.declared.pairs.Batch.TheVariants.{Credit, Boleto, Unknown, Collection}
+use Rattle.layout.specs.declared.pairs.Batch.TheVariants.{Credit, Boleto, Collection}
 use Rattle.checker.specs.Order.{ended}
 use Rattle.checker.specs.Totals.{add, cent_sum, cents_of}
 use Rattle.checker.specs.Line.{record_in, line_is}
@@ -40,12 +40,12 @@ use Rattle.promises.proofs.laws.Differ.{Differ, not_worth}
 use Rattle.promises.proofs.laws.SameLine.{right_at}
 use Rattle.promises.proofs.laws.Behind.{Ends, Goes, goes, at_last}
 
-follows_at : {d : Direction} {b c : Batch} {p q : Phase} {r : Record} → b ≡ c → p ≡ q → Follows d b p r → Follows d c q r
-follows_at {d} {r = r} e h f = subst₂ (λ (x : Batch) (y : Phase). Follows d x y r) e h f
+follows_at : {d : Direction} {b c : Option Batch} {p q : Phase} {r : Record} → b ≡ c → p ≡ q → Follows d b p r → Follows d c q r
+follows_at {d} {r = r} e h f = subst₂ (λ (x : Option Batch) (y : Phase). Follows d x y r) e h f
 
 -- ---- the file header's bank: the line behind it has it too
 
-header_next : {d : Direction} {b : Batch} {r : Record} → Follows d b Headed r → r ≡ BatchHeader
+header_next : {d : Direction} {b : Option Batch} {r : Record} → Follows d b Headed r → r ≡ BatchHeader
 header_next first_batch = refl
 header_next (pays x g) = never (next_in x)
 
@@ -76,27 +76,27 @@ blank_or_digit bs h k =
     never (subst (λ (w : List ℕ). one_of (digit_byte 0 ∷ digit_byte 9 ∷ []) w ≡ true) (sym is) k)
 
 -- by its letter, or by that place: no line is right as both
-not_first : (b : Batch) {e e' : Direction} {r r' : Record} (l : List ℕ) → Stands b 1 r → Stands b 0 r' → RightLine r e l → RightLine r' e' l → ⊥
+not_first : (b : Option Batch) {e e' : Direction} {r r' : Record} (l : List ℕ) → Stands b 1 r → Stands b 0 r' → RightLine r e l → RightLine r' e' l → ⊥
 unfolding fields_of AllKept
-not_first Credit {e} {e'} l g h a a' =
+not_first (Some Credit) {e} {e'} l g h a a' =
     let b = subst (λ (x : Record). RightLine x e l) (one_stands g (record { is = refl })) a in
     let b' = subst (λ (x : Record). RightLine x e' l) (one_stands h (record { is = refl })) a' in
     omega (arith, letter_at SegmentB _ (record_in l) b.fields refl refl, letter_at SegmentA _ (record_in l) b'.fields refl refl)
-not_first Boleto {e} {e'} l g h a a' =
+not_first (Some Boleto) {e} {e'} l g h a a' =
     let b = subst (λ (x : Record). RightLine x e l) (one_stands g (record { is = refl })) a in
     let b' = subst (λ (x : Record). RightLine x e' l) (one_stands h (record { is = refl })) a' in
     blank_or_digit (places 15 15 (record_in l)) (right_at b 5 (lit≤ tt)).0 (right_at b' 5 (lit≤ tt)).0
-not_first Unknown l g h a a' = omega (arith, stands_in g)
-not_first Collection l g h a a' = omega (arith, stands_in g)
+not_first (Some Collection) l g h a a' = omega (arith, stands_in g)
+not_first None l g h a a' = omega (arith, stands_in g)
 
 -- it is neither a first record nor the batch trailer
-not_second : {d d' e e' : Direction} {b : Batch} {r r' : Record} (l : List ℕ) → Follows d b (Within 1) r → Follows d' b BehindZ r'
+not_second : {d d' e e' : Direction} {b : Option Batch} {r r' : Record} (l : List ℕ) → Follows d b (Within 1) r → Follows d' b BehindZ r'
     → place type_place (record_in l) ≡ type_of r → place type_place (record_in l) ≡ type_of r' → RightLine r e l → RightLine r' e' l → ⊥
 not_second {b = b} l (pays goes_on g) (pays pays_behind_z h) t t' a a' = not_first b l g h a a'
 not_second l (pays goes_on g) closes_behind_z t t' a a' = omega (arith, (row g).type)
 
 -- no line stands both behind a first record and behind a Z
-begun_or_behind_z : (ls : List (List ℕ)) {s s' : Checker} {b : Batch} → s.phase ≡ Within 1 → s'.phase ≡ BehindZ → s.batch ≡ b → s'.batch ≡ b
+begun_or_behind_z : (ls : List (List ℕ)) {s s' : Checker} {b : Option Batch} → s.phase ≡ Within 1 → s'.phase ≡ BehindZ → s.batch ≡ b → s'.batch ≡ b
     → Ends s ls → Ends s' ls → ⊥
 begun_or_behind_z [] p p' q q' e e' = never (rw p at (at_last e))
 begun_or_behind_z (l ∷ ls) p p' q q' e e' =
@@ -105,7 +105,7 @@ begun_or_behind_z (l ∷ ls) p p' q q' e e' =
     not_second l (follows_at q p g.follows) (follows_at q' p' g'.follows) g.typed g'.typed g.fitting.right g'.fitting.right
 
 -- in a return a payment whose letters are guarded has a second record
-second_comes : {d : Direction} {b : Batch} → LetterGuarded d b → d ≡ Return → phase_behind 0 b ≡ Within 1
+second_comes : {d : Direction} {b : Option Batch} → LetterGuarded d b → d ≡ Return → phase_behind 0 b ≡ Within 1
 second_comes in_remittance e = never (ap is_return e)
 second_comes of_credits e = refl
 second_comes of_boletos e = refl
@@ -119,7 +119,7 @@ not_z {s = s} {ls} l l' c d h g g' =
 -- ---- the amount of a credit or of a collection: the batch trailer has the sum
 
 -- behind a detail
-trailer_or_detail : {d : Direction} {b : Batch} {p : Phase} {r : Record} → Open p → Follows d b p r → (r ≡ BatchTrailer) ⊎ (type_of r ≡ digit_byte 3)
+trailer_or_detail : {d : Direction} {b : Option Batch} {p : Phase} {r : Record} → Open p → Follows d b p r → (r ≡ BatchTrailer) ⊎ (type_of r ≡ digit_byte 3)
 trailer_or_detail at_within (pays x g) = inr (row g).type
 trailer_or_detail at_paid (adds_z e) = inr refl
 trailer_or_detail at_paid (pays x g) = inr (row g).type

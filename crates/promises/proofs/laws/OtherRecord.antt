@@ -1,7 +1,7 @@
 -- Two lines at one state that differ at one place, both on the way to the end, are read as one record, if the place is no letter or the letter is
 -- guarded. Assumes nothing.
 use Rattle.std.proofs.Math.Path.{◌≡◌, subst, subst⁻¹}
-use Rattle.std.specs.Prelude.{refl, ◌≢◌, List, ℕ, length, take, drop, None}
+use Rattle.std.specs.Prelude.{refl, ◌≢◌, List, ℕ, length, take, drop, None, Option}
 use Rattle.std.proofs.Common.{sym, ap, ◌∙◌, lit≤, take-take}
 use native.Mathlib.Omega.{arith}
 use Rattle.std.proofs.Math.Decide.{ℕ_discrete}
@@ -39,21 +39,21 @@ use Rattle.promises.proofs.laws.NextLine.{not_z}
 
 -- ---- two records that may follow at one state
 
-data Apart (d : Direction) (b : Batch) : Record → Record → Type 0 where
+data Apart (d : Direction) (b : Option Batch) : Record → Record → Type 0 where
   pays_or_closes : {r : Record} → type_of r ≡ digit_byte 3 → Apart d b r BatchTrailer
   opens_or_ends : Apart d b BatchHeader FileTrailer
   begins_or_z : {r : Record} → d ≡ Return → Stands b 0 r → Apart d b r SegmentZ
 
-data Two (d : Direction) (b : Batch) (r r' : Record) : Type 0 where
+data Two (d : Direction) (b : Option Batch) (r r' : Record) : Type 0 where
   one : r ≡ r' → Two d b r r'
   apart : Apart d b r r' → Two d b r r'
   apart_turned : Apart d b r' r → Two d b r r'
 
 -- a line that is one of a payment's, and another
-stands_two : {d : Direction} {b : Batch} {n m : ℕ} {r r' : Record} → n ≡ m → Stands b n r → Stands b m r' → Two d b r r'
+stands_two : {d : Direction} {b : Option Batch} {n m : ℕ} {r r' : Record} → n ≡ m → Stands b n r → Stands b m r' → Two d b r r'
 stands_two {b = b} {r' = r'} e g h = one (one_stands g (subst⁻¹ (λ (k : ℕ). Stands b k r') e h))
 
-two : {d : Direction} {b : Batch} {p : Phase} {r r' : Record} → Follows d b p r → Follows d b p r' → Two d b r r'
+two : {d : Direction} {b : Option Batch} {p : Phase} {r r' : Record} → Follows d b p r → Follows d b p r' → Two d b r r'
 two heads heads = one refl
 two heads (pays x g) = never (next_in x)
 two first_batch first_batch = one refl

@@ -1,5 +1,5 @@
 -- The records, a row each: what all lines but the file header ask first, and what no line takes back. Assumes nothing.
-use Rattle.std.specs.Prelude.{◌≡◌, refl, ◌⊎◌, List, [], ◌∷◌, ℕ, ◌≤◌}
+use Rattle.std.specs.Prelude.{◌≡◌, refl, ◌⊎◌, List, [], ◌∷◌, ℕ, ◌≤◌, Option}
 use Rattle.std.proofs.Common.{inl, inr, arith}
 use Rattle.layout.specs.Table.{bank_field, batch_field, number_field}
 use Rattle.checker.specs.Line.{ordinal}
@@ -34,7 +34,7 @@ bank_first =
 abbrev pub Settled : Direction → Checker → Type 0
 Settled d s = (1 ≤ (stage s.phase).own) × (s.dir ≡ d)
 
-no_header : {d : Direction} {b : Batch} {p : Phase} → Follows d b p FileHeader → 1 ≤ (stage p).own → ⊥
+no_header : {d : Direction} {b : Option Batch} {p : Phase} → Follows d b p FileHeader → 1 ≤ (stage p).own → ⊥
 no_header heads h = omega arith
 no_header (pays x g) h = omega (arith, (row g).type)
 

@@ -1,6 +1,6 @@
 -- The writer can write every file that the reader accepts: its records, given back call by call, are all accepted, and give the same bytes. So the
 -- files that the writer's calls close are exactly those that the reader accepts. Assumes nothing.
-use Rattle.std.specs.Prelude.{◌≡◌, ◌↔◌, true, ℕ, suc, ◌+◌, ◌≤◌, ◌<◌, drop, Ok}
+use Rattle.std.specs.Prelude.{◌≡◌, ◌↔◌, true, ℕ, suc, ◌+◌, ◌≤◌, ◌<◌, drop, Ok, Option}
 use Rattle.std.proofs.Math.Path.{refl, sym, ap, ap₂, subst⁻¹}
 use Rattle.std.proofs.Common.{◌∙◌, subst, arith, take-append-drop}
 use mathlib.Core.List.{List, [], ◌∷◌, ◌++◌, flatten, append_assoc, append-nil}
@@ -331,7 +331,7 @@ module _ (s : Checker) (l : List ℕ) (ls : List (List ℕ)) where
   by_edge q first_batch g on = opens_batch g on
   by_edge q (pays first_payment f) g on = begins f (rw q) g on
   by_edge {r = r} q (pays (goes_on {n}) f) g on = λ t done x.
-      let there = subst (λ (b : Batch). Stands b n r) x.same_batch f in
+      let there = subst (λ (b : Option Batch). Stands b n r) x.same_batch f in
       let m = stands_moves s (record_in l) f in
       let moved : Moved s (next r s (record_in l)) (after r) = rw (row f).phase m in
       subst (Writes t) (append_assoc done (l ∷ []) ls) (rest_behind t (done ++ l ∷ []) ls there on (part_more x g (expected_own t.dir there) moved))

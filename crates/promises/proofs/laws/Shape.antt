@@ -1,9 +1,8 @@
 -- The lines of batches are counted; the details of a batch, edge by edge from a phase on, are its payments. Assumes nothing.
-use Rattle.std.specs.Prelude.{◌≡◌, refl, true, List, [], ◌∷◌, ◌++◌, ℕ, zero, suc, ◌+◌, ◌-◌, ◌≤◌, ◌<◌, length, take, drop}
+use Rattle.std.specs.Prelude.{◌≡◌, refl, true, List, [], ◌∷◌, ◌++◌, ℕ, zero, suc, ◌+◌, ◌-◌, ◌≤◌, ◌<◌, length, take, drop, is_some, Option}
 use Rattle.std.proofs.Common.{sym, ap, subst, ◌∙◌, append_assoc, add-zero, arith, lt-ltb, le-ltb, length-append, length-drop, take_all}
 use Rattle.std.proofs.Math.Decide.{dec_lt}
 use Rattle.digits.specs.Digits.{digit_byte}
-use Rattle.layout.specs.Pairs.{known}
 use Rattle.layout.specs.Records.{type_of}
 use Rattle.layout.specs.declared.Direction.{Direction}
 use Rattle.layout.specs.declared.Record.{Record}
@@ -28,7 +27,7 @@ batches_long no_batches = refl
 batches_long (batch {ls = ls} {ms} b on) = omega (arith, length-append ls ms, ap (λ (t : Totals). t.records.0) b.are, batches_long on)
 
 -- so many payments, from a phase up to where the batch may close
-pub data Tail (d : Direction) (b : Batch) : Phase → ℕ → List Record → Type 0 where
+pub data Tail (d : Direction) (b : Option Batch) : Phase → ℕ → List Record → Type 0 where
   stops_paid : Tail d b Paid 0 []
   stops_behind_z : Tail d b BehindZ 0 []
   steps : {p : Phase} {r : Record} {k : ℕ} {rs : List Record}
@@ -37,7 +36,7 @@ pub data Tail (d : Direction) (b : Batch) : Phase → ℕ → List Record → Ty
 -- ---- from edges to payments
 
 -- what a tail makes, by phase: payments, by itself or with the records of a payment before it
-abbrev Makes : Direction → Batch → Phase → ℕ → List Record → Type 0
+abbrev Makes : Direction → Option Batch → Phase → ℕ → List Record → Type 0
 Makes d b Start k rs = Unit {0}
 Makes d b Headed k rs = Unit {0}
 Makes d b Opened k rs = Payments d b k rs × (1 ≤ k)
@@ -48,7 +47,7 @@ Makes d b Closed k rs = Unit {0}
 Makes d b Ended k rs = Unit {0}
 
 -- by the record at a position
-behind_one : {d : Direction} {b : Batch} {n : ℕ} {r : Record} (k : ℕ) (rs : List Record) → Stands b n r → Makes d b (after r) k rs
+behind_one : {d : Direction} {b : Option Batch} {n : ℕ} {r : Record} (k : ℕ) (rs : List Record) → Stands b n r → Makes d b (after r) k rs
     → Payments d b (k + 1) (take n (payment b) ++ r ∷ rs)
 behind_one {d} {b} {n} {r} k rs g h = subst (Payments d b (k + 1)) here (go (dec_lt (suc n) (length (payment b))) (subst (λ (p : Phase). Makes d b p k rs) (row g).phase h))
   where
@@ -59,11 +58,11 @@ behind_one {d} {b} {n} {r} k rs g h = subst (Payments d b (k + 1)) here (go (dec
     go (yes more) = rw (lt-ltb (suc n) (length (payment b)) more) (λ h. h)
     go (no last) = rw (le-ltb (suc n) (length (payment b)) (omega arith), take_all (suc n) (payment b) (omega arith)) (λ h. h)
 
-begun : {d : Direction} {b : Batch} {r : Record} (k : ℕ) (rs : List Record) → Stands b 0 r → Makes d b (after r) k rs
+begun : {d : Direction} {b : Option Batch} {r : Record} (k : ℕ) (rs : List Record) → Stands b 0 r → Makes d b (after r) k rs
     → Payments d b (k + payments_of r) (r ∷ rs) × (1 ≤ k + payments_of r)
 begun k rs g h = rw (row g).begins (behind_one k rs g h, omega arith)
 
-gone_on : {d : Direction} {b : Batch} {n : ℕ} {r : Record} (k : ℕ) (rs : List Record) → Stands b n r → Makes d b (after r) k rs
+gone_on : {d : Direction} {b : Option Batch} {n : ℕ} {r : Record} (k : ℕ) (rs : List Record) → Stands b n r → Makes d b (after r) k rs
     → Makes d b (Within n) (k + payments_of r) (r ∷ rs)
 gone_on {d} {b} {n} {r} k rs g h = subst (λ (m : ℕ). Payments d b m (take n (payment b) ++ r ∷ rs)) (rw (row g).begins (once n)) (behind_one k rs g h)
   where
@@ -72,7 +71,7 @@ gone_on {d} {b} {n} {r} k rs g h = subst (λ (m : ℕ). Payments d b m (take n (
     once (suc n) = omega arith
 
 -- edge by edge; the types leave none but details
-makes : {d : Direction} {b : Batch} {p : Phase} {k : ℕ} {rs : List Record} → Tail d b p k rs → Makes d b p k rs
+makes : {d : Direction} {b : Option Batch} {p : Phase} {k : ℕ} {rs : List Record} → Tail d b p k rs → Makes d b p k rs
 makes stops_paid = pay without_z no-payments
 makes stops_behind_z = no-payments
 makes (steps heads e t) = tt
@@ -87,13 +86,13 @@ makes (steps closes_behind_z e t) = absurd (omega arith)
 makes (steps next_batch e t) = tt
 makes (steps ends e t) = tt
 
-pub tail_payments : {d : Direction} {b : Batch} {k : ℕ} {rs : List Record} → Tail d b Opened k rs → Payments d b k rs × (1 ≤ k)
+pub tail_payments : {d : Direction} {b : Option Batch} {k : ℕ} {rs : List Record} → Tail d b Opened k rs → Payments d b k rs × (1 ≤ k)
 tail_payments t = makes t
 
 -- ---- from payments to edges
 
 -- the records of a payment behind one of them, and behind the last what is behind the payment
-module _ {d : Direction} {b : Batch} {k : ℕ} {rs : List Record} (t : Tail d b Paid k rs) where
+module _ {d : Direction} {b : Option Batch} {k : ℕ} {rs : List Record} (t : Tail d b Paid k rs) where
   behind_tail : (later : List Record) (n : ℕ) {r : Record} → drop n (payment b) ≡ r ∷ later → Stands b n r → Tail d b (after r) k (later ++ rs)
   behind_tail [] n e g =
       let last : length (payment b) ≤ suc n = omega (arith, length-drop n (payment b), ap length e) in
@@ -106,7 +105,7 @@ module _ {d : Direction} {b : Batch} {k : ℕ} {rs : List Record} (t : Tail d b 
       rw ((row g).phase, lt-ltb (suc n) (length (payment b)) more) (subst (λ (m : ℕ). Tail d b (Within (suc n)) m (x ∷ (later ++ rs))) (rw (row h).begins (add-zero k)) on)
 
 -- a payment, from a phase where one may begin, and a Z behind it
-paid_tail : {d : Direction} {b : Batch} {p : Phase} {k : ℕ} {rs : List Record} → known b ≡ true → ((r : Record) → Stands b 0 r → Follows d b p r)
+paid_tail : {d : Direction} {b : Option Batch} {p : Phase} {k : ℕ} {rs : List Record} → is_some b ≡ true → ((r : Record) → Stands b 0 r → Follows d b p r)
     → Tail d b Paid k rs → Tail d b p (k + 1) (payment b ++ rs)
 paid_tail {d} {b} {p} {k} {rs} e may t = go (payment b) refl
   where
@@ -116,17 +115,17 @@ paid_tail {d} {b} {p} {k} {rs} e may t = go (payment b) refl
         let g : Stands b 0 r = record { is = ap (take 1) q } in
         subst (λ (m : ℕ). Tail d b p (k + m) (r ∷ (later ++ rs))) (row g).begins (steps (may r g) (row g).type (behind_tail t later 0 q g))
 
-z_tail : {d : Direction} {b : Batch} {k : ℕ} {zs rs : List Record} → OptionalZ d zs → Tail d b BehindZ k rs → Tail d b Paid k rs
+z_tail : {d : Direction} {b : Option Batch} {k : ℕ} {zs rs : List Record} → OptionalZ d zs → Tail d b BehindZ k rs → Tail d b Paid k rs
     → Tail d b Paid k (zs ++ rs)
 z_tail without_z n t = t
 z_tail {k = k} with_z n t = rw (← add-zero k) (steps (adds_z refl) refl n)
 
 -- payments, from a phase where the batch may close if there is none
-later_tail : {d : Direction} {b : Batch} {p : Phase} {k : ℕ} {rs : List Record} → known b ≡ true → Payments d b k rs → (k ≡ 0 → Tail d b p 0 [])
+later_tail : {d : Direction} {b : Option Batch} {p : Phase} {k : ℕ} {rs : List Record} → is_some b ≡ true → Payments d b k rs → (k ≡ 0 → Tail d b p 0 [])
     → ((r : Record) → Stands b 0 r → Follows d b p r) → Tail d b p k rs
 later_tail {p = p} e no-payments stop may = stop refl
 later_tail {p = p} e (pay n ps) stop may =
     paid_tail e may (z_tail n (later_tail {p = BehindZ} e ps (λ z. stops_behind_z) (λ r. pays pays_behind_z)) (later_tail {p = Paid} e ps (λ z. stops_paid) (λ r. pays pays_behind)))
 
-pub payments_tail : {d : Direction} {b : Batch} {k : ℕ} {rs : List Record} → known b ≡ true → Payments d b k rs → 1 ≤ k → Tail d b Opened k rs
+pub payments_tail : {d : Direction} {b : Option Batch} {k : ℕ} {rs : List Record} → is_some b ≡ true → Payments d b k rs → 1 ≤ k → Tail d b Opened k rs
 payments_tail e ps some = later_tail e ps (λ z. absurd (omega arith)) (λ r. pays first_payment)

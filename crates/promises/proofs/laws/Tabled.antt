@@ -107,7 +107,7 @@ record-rules r d rec =
 -- ---- a line
 
 -- behind the type, by what the line is read as, in every state
-read : (r : Record) (p : Phase) (d : Direction) (b : Batch) (n : ℕ) (x y : Totals) (rec : List ℕ) → T (all_alone (rules_as r (state p d b n x y) rec))
+read : (r : Record) (p : Phase) (d : Direction) (b : Option Batch) (n : ℕ) (x y : Totals) (rec : List ℕ) → T (all_alone (rules_as r (state p d b n x y) rec))
 unfolding table all fields_of_each rules_of fields_of within boleto_rules collection_rules rules_of_type rules_as
 read r p Remittance b n x y rec = each (λ r. all_alone (rules_as r (state p Remittance b n x y) rec)) tt r
 read r p Return b n x y rec = each (λ r. all_alone (rules_as r (state p Return b n x y) rec)) tt r

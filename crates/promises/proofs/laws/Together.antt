@@ -1,9 +1,8 @@
 -- Live and withdrawn payments together are the payments and the cents of the grammar, whatever the movement: of details, of a batch, of a file.
 -- Assumes nothing.
-use Rattle.std.specs.Prelude.{◌≡◌, true, List, ℕ, length}
+use Rattle.std.specs.Prelude.{◌≡◌, true, List, ℕ, length, is_some, Option}
 use Rattle.std.proofs.Common.{arith}
 use Rattle.answer.specs.Rules.{AllKept}
-use Rattle.layout.specs.Pairs.{known}
 use Rattle.layout.specs.Table.{fields_of}
 use Rattle.layout.specs.Record.{rules_of}
 use Rattle.layout.specs.declared.Direction.{Direction}
@@ -24,7 +23,7 @@ use Rattle.promises.proofs.laws.Shape.{Tail, stops_paid, stops_behind_z, steps, 
 abbrev pub among : ℕ → List Record → List (List ℕ) → Totals
 among records rs ls = totals 0 records (live_among rs ls) (withdrawn_among rs ls)
 
-pub details_together : {d : Direction} {b : Batch} {p : Phase} {bank batch n k c : ℕ} {rs : List Record} {ls : List (List ℕ)}
+pub details_together : {d : Direction} {b : Option Batch} {p : Phase} {bank batch n k c : ℕ} {rs : List Record} {ls : List (List ℕ)}
     → Tail d b p k rs → Details d bank batch n rs ls c → InAll k c (among (length ls) rs ls)
 unfolding live_among withdrawn_among
 details_together stops_paid no_details = omega arith
@@ -34,7 +33,7 @@ details_together (steps {r = r} f type t) (detail {l = l} w number ds) = omega (
 -- ---- a batch
 
 -- the header's pair is a known kind
-pub pair_known : {d : Direction} {l : List ℕ} → RightLine BatchHeader d l → known (kind_in d l) ≡ true
+pub pair_known : {d : Direction} {l : List ℕ} → RightLine BatchHeader d l → is_some (kind_in d l) ≡ true
 unfolding AllKept rules_of fields_of
 pair_known k = k.fields.1.1.1.1.0
 

@@ -1,5 +1,5 @@
 -- Each way to be guarded has a place in a file that is accepted: none of the list is said of nothing. Assumes nothing.
-use Rattle.std.specs.Prelude.{◌≡◌, refl, ℕ, zero, suc, ◌+◌, ◌*◌, ◌≤◌, ◌<◌, length, get_or, Ok}
+use Rattle.std.specs.Prelude.{◌≡◌, refl, ℕ, zero, suc, ◌+◌, ◌*◌, ◌≤◌, ◌<◌, length, get_or, Ok, Option}
 use mathlib.Core.List.{List, [], ◌∷◌, Memᴰ}
 use Rattle.std.proofs.Common.{arith, lit≤}
 use Rattle.answer.specs.Rules.{first_broken}
@@ -53,12 +53,12 @@ barcode_by (boleto.all ne low high) = any-of-barcode
 barcode_by boleto.currency = currency
 barcode_by boleto.check = general-check
 
-abbrev pub letter_by : {d : Direction} {b : Batch} → LetterGuarded d b → Way
+abbrev pub letter_by : {d : Direction} {b : Option Batch} → LetterGuarded d b → Way
 letter_by guarded.in_remittance = letter-in-remittance
 letter_by guarded.of_credits = letter-of-credits
 letter_by guarded.of_boletos = letter-of-boletos
 
-abbrev pub way_of : {d : Direction} {b : Batch} {r : Record} {l : List ℕ} {p : ℕ} → Guarded d b r l p → Way
+abbrev pub way_of : {d : Direction} {b : Option Batch} {r : Record} {l : List ℕ} {p : ℕ} → Guarded d b r l p → Way
 way_of (guarded.line-end h) = line-end
 way_of (guarded.first_eight h) = first_eight
 way_of (guarded.detail_number e h) = detail_number

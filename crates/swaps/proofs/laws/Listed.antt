@@ -1,6 +1,6 @@
 -- The guarded places in the paper's own numbers, sentence by sentence, and the guarded neighbours in those of request 11: none of its list is left
 -- out. Assumes nothing.
-use Rattle.std.specs.Prelude.{◌≡◌, refl, ◌≢◌, ◌⊎◌, List, ℕ, suc, ◌-◌, ◌≤◌}
+use Rattle.std.specs.Prelude.{◌≡◌, refl, ◌≢◌, ◌⊎◌, List, ℕ, suc, ◌-◌, ◌≤◌, Option, Some}
 use Rattle.std.proofs.Math.Path.{subst⁻¹}
 use Rattle.std.proofs.Common.{inl, inr, arith, lit≤}
 use Rattle.std.proofs.Math.Decide.{dec_le}
@@ -20,12 +20,12 @@ use Rattle.checker.specs.Line.{record_in}
 use Rattle.promises.specs.Guarded.{On, In, FieldOf, Fixed, blanks, zeros, exact, optional, LetterGuarded, in_remittance, of_credits, of_boletos}
 use Rattle.swaps.specs.Guarded.{credit, nominal, discount, fine, boleto, collection, batch-records, batch-sum, file-batches, file-records, line-end, bank, batch-number, line_type, detail_number, letter, fixed, amount, count, Guarded, in_field, in_barcode, GuardedPair, both_in_field, both_in_barcode}
 
-pub record AsListed (d : Direction) (b : Batch) (l : List ℕ) (p : ℕ) : Type 0 where
+pub record AsListed (d : Direction) (b : Option Batch) (l : List ℕ) (p : ℕ) : Type 0 where
   pub ends : {r : Record} → On 241 242 p → Guarded d b r l p
   pub every_line : {r : Record} → On 1 8 p → Guarded d b r l p
   pub details : {r : Record} → type_of r ≡ digit_byte 3 → On 9 13 p → Guarded d b r l p
   pub letter_remitted : {r : Record} → type_of r ≡ digit_byte 3 → d ≡ Remittance → p ≡ 14 → Guarded d b r l p
-  pub letter_of_two : {r : Record} → type_of r ≡ digit_byte 3 → (b ≡ Credit) ⊎ (b ≡ Boleto) → p ≡ 14 → Guarded d b r l p
+  pub letter_of_two : {r : Record} → type_of r ≡ digit_byte 3 → (b ≡ Some Credit) ⊎ (b ≡ Some Boleto) → p ≡ 14 → Guarded d b r l p
   pub blank : {r : Record} {f : Field} → FieldOf r f → f.kind ≡ K → In f p → Guarded d b r l p
   pub zero : {r : Record} {f : Field} → FieldOf r f → f.kind ≡ Zeros → In f p → Guarded d b r l p
   pub exactly : {r : Record} {f : Field} {bs : List ℕ} → FieldOf r f → f.kind ≡ Exact bs → In f p → Guarded d b r l p
@@ -43,7 +43,7 @@ pub record AsListed (d : Direction) (b : Batch) (l : List ℕ) (p : ℕ) : Type 
 check_at : (l : List ℕ) → place 5 (part barcode_field (record_in l)) ≡ place 22 (record_in l)
 check_at l = part_get_or (record_in l) 17 44 21 0 (lit≤ tt) (lit≤ tt)
 
-pub as_listed : (d : Direction) (b : Batch) (l : List ℕ) (p : ℕ) → AsListed d b l p
+pub as_listed : (d : Direction) (b : Option Batch) (l : List ℕ) (p : ℕ) → AsListed d b l p
 as_listed d b l p =
     record {
       ends = in_field line-end;
@@ -65,7 +65,7 @@ as_listed d b l p =
       currency_and_check = λ h. one_of (dec_le p 21) h;
     }
   where
-    of_two : (b ≡ Credit) ⊎ (b ≡ Boleto) → LetterGuarded d b
+    of_two : (b ≡ Some Credit) ⊎ (b ≡ Some Boleto) → LetterGuarded d b
     of_two (inl q) = rw q of_credits
     of_two (inr q) = rw q of_boletos
 
@@ -96,7 +96,7 @@ as_listed d b l p =
 
 -- ---- the neighbours of request 11, in its own words: p and the place behind it
 
-pub record PairsListed (d : Direction) (b : Batch) (l : List ℕ) (p : ℕ) : Type 0 where
+pub record PairsListed (d : Direction) (b : Option Batch) (l : List ℕ) (p : ℕ) : Type 0 where
   pub amount_of_a : On 120 133 p → GuardedPair d b SegmentA l p
   pub amount_of_j : On 153 166 p → GuardedPair d b SegmentJ l p
   pub nominal_of_j : On 100 113 p → GuardedPair d b SegmentJ l p
@@ -105,7 +105,7 @@ pub record PairsListed (d : Direction) (b : Batch) (l : List ℕ) (p : ℕ) : Ty
   pub amount_of_o : On 108 121 p → GuardedPair d b SegmentO l p
   pub barcode_of_j : place 22 (record_in l) ≢ digit_byte 1 → On 18 60 p → p ≢ 22 → suc p ≢ 22 → GuardedPair d b SegmentJ l p
 
-pub pairs_listed : (d : Direction) (b : Batch) (l : List ℕ) (p : ℕ) → PairsListed d b l p
+pub pairs_listed : (d : Direction) (b : Option Batch) (l : List ℕ) (p : ℕ) → PairsListed d b l p
 pairs_listed d b l p =
     record {
       amount_of_a = λ h. both_in_field (amount credit) (omega arith) (omega arith);

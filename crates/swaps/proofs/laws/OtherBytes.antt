@@ -1,5 +1,5 @@
 -- An accepted file, and another that differs from it only inside a field of one line, where it is seen: the other is refused. Assumes nothing.
-use Rattle.std.specs.Prelude.{◌≡◌, refl, ◌≢◌, ◌⊎◌, List, ℕ, ◌*◌, ◌-◌, ◌≤◌, ◌<◌, length, Err, Ok, Some}
+use Rattle.std.specs.Prelude.{◌≡◌, refl, ◌≢◌, ◌⊎◌, List, ℕ, ◌*◌, ◌-◌, ◌≤◌, ◌<◌, length, Err, Ok, Some, Option}
 use Rattle.std.proofs.Common.{sym, ap, ◌∙◌, subst, inl, inr, arith, lit≤, get_or-take}
 use Rattle.std.proofs.Math.Decide.{dec_le}
 use Rattle.std.proofs.Math.ListN.{get_or-eq_default}
@@ -79,7 +79,7 @@ module _ {s : Checker} {ls : List (List ℕ)} (l l' : List ℕ) where
   amount_unlike boleto d a a' g g' = not_amount a a' boleto d
   amount_unlike collection d a a' g g' = not_collection l l' d g g'
 
-  not_guarded : {f : Field} {r : Record} {dir : Direction} {kind : Batch} → GuardedField dir kind r f → f.to ≤ record_bytes → DifferIn f (record_in l) (record_in l')
+  not_guarded : {f : Field} {r : Record} {dir : Direction} {kind : Option Batch} → GuardedField dir kind r f → f.to ≤ record_bytes → DifferIn f (record_in l) (record_in l')
       → RightLine r dir l → RightLine r dir l' → Goes r s l ls → Goes r s l' ls → ⊥
   not_guarded line-end few d a a' g g' = omega arith
   not_guarded {r = r} bank few d a a' g g' = bank_unlike r d g g'
@@ -92,7 +92,7 @@ module _ {s : Checker} {ls : List (List ℕ)} (l l' : List ℕ) where
   not_guarded (amount m) few d a a' g g' = amount_unlike m d a a' g g'
   not_guarded (count m) few d a a' g g' = unread (count_asked s m) d g g'
 
-  not_seen : {f : Field} {r : Record} {dir : Direction} {kind : Batch} → Seen dir kind r l' f → f.to ≤ record_bytes → DifferIn f (record_in l) (record_in l')
+  not_seen : {f : Field} {r : Record} {dir : Direction} {kind : Option Batch} → Seen dir kind r l' f → f.to ≤ record_bytes → DifferIn f (record_in l) (record_in l')
       → RightLine r dir l → RightLine r dir l' → Goes r s l ls → Goes r s l' ls → ⊥
   not_seen (guarded h) few d a a' g g' = not_guarded h few d a a' g g'
   not_seen (no_barcode e wrong) few d a a' g g' = wrong (right_as l' e a')
@@ -100,7 +100,7 @@ module _ {s : Checker} {ls : List (List ℕ)} (l l' : List ℕ) where
 -- ---- where the field stands
 
 -- in the record, or behind it; the type alone; the letter only if it is guarded
-pub record Placed (dir : Direction) (kind : Batch) (r : Record) (f : Field) : Type 0 where
+pub record Placed (dir : Direction) (kind : Option Batch) (r : Record) (f : Field) : Type 0 where
   pub first : 1 ≤ f.from
   pub last : f.to ≤ line_bytes
   side : (f.to ≤ record_bytes) ⊎ (record_bytes < f.from)
@@ -108,10 +108,10 @@ pub record Placed (dir : Direction) (kind : Batch) (r : Record) (f : Field) : Ty
   lettered : type_of r ≡ digit_byte 3 → In f segment_place → LetterGuarded dir kind
 
 -- a field of a payment or a trailer: behind the letter
-behind-letter : {dir : Direction} {kind : Batch} {r : Record} {f : Field} → segment_place < f.from → f.to ≤ record_bytes → Placed dir kind r f
+behind-letter : {dir : Direction} {kind : Option Batch} {r : Record} {f : Field} → segment_place < f.from → f.to ≤ record_bytes → Placed dir kind r f
 behind-letter h k = record { first = omega arith; last = omega arith; side = inl k; alone = λ i. absurd (omega arith); lettered = λ e i. absurd (omega arith) }
 
-amount_placed : {dir : Direction} {kind : Batch} {r : Record} {f : Field} → AmountIn r f → Placed dir kind r f
+amount_placed : {dir : Direction} {kind : Option Batch} {r : Record} {f : Field} → AmountIn r f → Placed dir kind r f
 amount_placed credit = behind-letter (lit≤ tt) (lit≤ tt)
 amount_placed nominal = behind-letter (lit≤ tt) (lit≤ tt)
 amount_placed discount = behind-letter (lit≤ tt) (lit≤ tt)
@@ -119,17 +119,17 @@ amount_placed fine = behind-letter (lit≤ tt) (lit≤ tt)
 amount_placed boleto = behind-letter (lit≤ tt) (lit≤ tt)
 amount_placed collection = behind-letter (lit≤ tt) (lit≤ tt)
 
-count_placed : {dir : Direction} {kind : Batch} {r : Record} {f : Field} → CountIn r f → Placed dir kind r f
+count_placed : {dir : Direction} {kind : Option Batch} {r : Record} {f : Field} → CountIn r f → Placed dir kind r f
 count_placed batch-records = behind-letter (lit≤ tt) (lit≤ tt)
 count_placed batch-sum = behind-letter (lit≤ tt) (lit≤ tt)
 count_placed file-batches = behind-letter (lit≤ tt) (lit≤ tt)
 count_placed file-records = behind-letter (lit≤ tt) (lit≤ tt)
 
-before_letter : {dir : Direction} {kind : Batch} {r : Record} (f : Field) → 1 ≤ f.from → f.to < segment_place → (In f type_place → (f.from ≡ type_place) × (f.to ≡ type_place))
+before_letter : {dir : Direction} {kind : Option Batch} {r : Record} (f : Field) → 1 ≤ f.from → f.to < segment_place → (In f type_place → (f.from ≡ type_place) × (f.to ≡ type_place))
     → Placed dir kind r f
 before_letter f h k only = record { first = h; last = omega arith; side = inl (omega arith); alone = only; lettered = λ e i. absurd (omega arith) }
 
-pub field_placed : {dir : Direction} {kind : Batch} {r : Record} {f : Field} → GuardedField dir kind r f → Placed dir kind r f
+pub field_placed : {dir : Direction} {kind : Option Batch} {r : Record} {f : Field} → GuardedField dir kind r f → Placed dir kind r f
 field_placed line-end = record { first = lit≤ tt; last = lit≤ tt; side = inr (lit≤ tt); alone = λ i. absurd (omega arith); lettered = λ e i. absurd (omega arith) }
 field_placed bank = before_letter bank_field (lit≤ tt) (lit≤ tt) (λ i. absurd (omega arith))
 field_placed batch-number = before_letter batch_field (lit≤ tt) (lit≤ tt) (λ i. absurd (omega arith))
@@ -142,7 +142,7 @@ field_placed {r = r} (fixed m k) =
 field_placed (amount m) = amount_placed m
 field_placed (count m) = count_placed m
 
-placed : {dir : Direction} {kind : Batch} {r : Record} {l : List ℕ} {f : Field} → Seen dir kind r l f → Placed dir kind r f
+placed : {dir : Direction} {kind : Option Batch} {r : Record} {l : List ℕ} {f : Field} → Seen dir kind r l f → Placed dir kind r f
 placed (guarded h) = field_placed h
 placed (no_barcode e wrong) = behind-letter (lit≤ tt) (lit≤ tt)
 

@@ -1,5 +1,5 @@
 -- Each way to be guarded has a place in a file that is accepted: none of the list is said of nothing. Assumes nothing.
-use Rattle.std.specs.Prelude.{◌≡◌, refl, ℕ, zero, suc, ◌+◌, ◌*◌, ◌≤◌, ◌<◌, length, get_or, Ok}
+use Rattle.std.specs.Prelude.{◌≡◌, refl, ℕ, zero, suc, ◌+◌, ◌*◌, ◌≤◌, ◌<◌, length, get_or, Ok, Option}
 use mathlib.Core.List.{List, [], ◌∷◌, Memᴰ}
 use Rattle.std.proofs.Common.{arith, lit≤}
 use Rattle.answer.specs.Rules.{first_broken}
@@ -50,7 +50,7 @@ fixed_by kinds.zeros = zeros
 fixed_by kinds.exact = exact
 fixed_by kinds.optional = optional
 
-abbrev pub letter_by : {d : Direction} {b : Batch} → LetterGuarded d b → Way
+abbrev pub letter_by : {d : Direction} {b : Option Batch} → LetterGuarded d b → Way
 letter_by kinds.in_remittance = letter-in-remittance
 letter_by kinds.of_credits = letter-of-credits
 letter_by kinds.of_boletos = letter-of-boletos
@@ -69,7 +69,7 @@ count_by guarded.batch-sum = batch-sum
 count_by guarded.file-batches = file-batches
 count_by guarded.file-records = file-records
 
-abbrev pub field_by : {d : Direction} {b : Batch} {r : Record} {f : Field} → GuardedField d b r f → Way
+abbrev pub field_by : {d : Direction} {b : Option Batch} {r : Record} {f : Field} → GuardedField d b r f → Way
 field_by guarded.line-end = line-end
 field_by guarded.bank = bank
 field_by guarded.batch-number = batch-number
@@ -85,7 +85,7 @@ barcode_by (boletos.all ne low high) = any-of-barcode
 barcode_by boletos.currency = currency
 barcode_by boletos.check = general-check
 
-abbrev pub way_of : {d : Direction} {b : Batch} {r : Record} {l : List ℕ} {p : ℕ} → Guarded d b r l p → Way
+abbrev pub way_of : {d : Direction} {b : Option Batch} {r : Record} {l : List ℕ} {p : ℕ} → Guarded d b r l p → Way
 way_of (guarded.in_field h i) = field_by h
 way_of (guarded.in_barcode e h q) = barcode_by h
 

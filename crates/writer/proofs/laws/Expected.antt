@@ -1,5 +1,5 @@
 -- The records of a payment, by what is expected at each position. Assumes nothing.
-use Rattle.std.specs.Prelude.{◌≡◌, refl, Bool, true, false, not, ◌&&◌, ◌||◌, List, [], ◌∷◌, ℕ, zero, suc, ◌≤◌, ◌<◌, eqb, length, take, drop, None, Some}
+use Rattle.std.specs.Prelude.{◌≡◌, refl, Bool, true, false, not, ◌&&◌, ◌||◌, List, [], ◌∷◌, ℕ, zero, suc, ◌≤◌, ◌<◌, eqb, length, take, drop, None, Some, Option}
 use Rattle.std.proofs.Common.{sym, ap, arith, eq-eqb, ne_eqb, length-drop}
 use Rattle.std.proofs.Math.Bool.{and-false}
 use Rattle.std.proofs.Math.Decide.{dec_le}
@@ -57,11 +57,11 @@ finds d (x ∷ y ∷ rs) zero r e = at_position (ap (λ (q : Record). q ∷ []) 
 finds d (x ∷ y ∷ rs) (suc n) r e = found_next x (finds d (y ∷ rs) n r e)
 
 -- of a payment
-pub data Expected (d : Direction) (b : Batch) (n : ℕ) (r : Record) : Type 0 where
+pub data Expected (d : Direction) (b : Option Batch) (n : ℕ) (r : Record) : Type 0 where
   its_own : Stands b n r → Expected d b n r
   behind_last : n ≡ length (payment b) → 1 ≤ n → d ≡ Return → r ≡ SegmentZ → Expected d b n r
 
-pub expected : (d : Direction) (b : Batch) (n : ℕ) (r : Record) → expected_at n d b r ≡ true → Expected d b n r
+pub expected : (d : Direction) (b : Option Batch) (n : ℕ) (r : Record) → expected_at n d b r ≡ true → Expected d b n r
 expected d b n r e = go (finds d (payment b) n r e)
   where
     go : Found d (payment b) n r → Expected d b n r
@@ -102,7 +102,7 @@ none_taken : (rs : List Record) → take 1 rs ≡ [] → length rs ≡ 0
 none_taken [] e = refl
 none_taken (x ∷ rs) e = absurd (let z : ◌≡◌ {A = ℕ} 1 0 = ap length e in omega arith)
 
-module _ (d : Direction) {b : Batch} {n : ℕ} where
+module _ (d : Direction) {b : Option Batch} {n : ℕ} where
   pub own_position : {r : Record} → Stands b n r → expected_now (drop n (positions d (payment b))) ≡ r ∷ []
   own_position g = one_position d (payment b) n g.is
 
@@ -110,14 +110,14 @@ module _ (d : Direction) {b : Batch} {n : ℕ} where
   expected_own {r} g = rw (own_position g) (itself r)
 
 -- as the code reads it
-pub own_reading : (d : Direction) (b : Batch) (n : ℕ) (r q : Record) → reading_of (record_at n b) ≡ Some q → expected_at n d b r ≡ eqb (code r) (code q) || false
+pub own_reading : (d : Direction) (b : Option Batch) (n : ℕ) (r q : Record) → reading_of (record_at n b) ≡ Some q → expected_at n d b r ≡ eqb (code r) (code q) || false
 own_reading d b n r q e = go (drop n (payment b)) refl e
   where
     go : (rs : List Record) → drop n (payment b) ≡ rs → reading_of (take 1 rs) ≡ Some q → expected_at n d b r ≡ eqb (code r) (code q) || false
     go [] h e = never (ap found e)
     go (x ∷ rs) h e = let same : x ≡ q = cc in rw (own_position d {b = b} {n = n} (record { is = ap (take 1) h }), same)
 
-pub no_reading : (n : ℕ) (b : Batch) → reading_of (record_at n b) ≡ None → record_at n b ≡ []
+pub no_reading : (n : ℕ) (b : Option Batch) → reading_of (record_at n b) ≡ None → record_at n b ≡ []
 no_reading n b e = go (drop n (payment b)) e
   where
     go : (rs : List Record) → reading_of (take 1 rs) ≡ None → take 1 rs ≡ []
@@ -125,7 +125,7 @@ no_reading n b e = go (drop n (payment b)) e
     go (x ∷ rs) e = never (sym (ap found e))
 
 -- where none of the payment's stands, a Z is expected behind the last
-pub no_own : (d : Direction) (b : Batch) (n : ℕ) (r : Record) → record_at n b ≡ []
+pub no_own : (d : Direction) (b : Option Batch) (n : ℕ) (r : Record) → record_at n b ≡ []
     → expected_at n d b r ≡ (not (eqb n 0) && eqb n (length (payment b))) && is_one_of r (z_in d)
 no_own d b n r e = go (dec_le n (length rs)) (dec_le 1 n)
   where
@@ -145,7 +145,7 @@ no_own d b n r e = go (dec_le n (length rs)) (dec_le 1 n)
     go (yes q) (no none) = rw (no_records d rs n (omega (arith, same q)), eq-eqb n 0 (omega arith))
     go (no q) some = rw (no_position d rs n (omega (arith, behind)), ne_eqb n (length rs) (λ z. q (omega arith)), and-false)
 
-pub expected_last : (d : Direction) (b : Batch) → 1 ≤ length (payment b) → d ≡ Return → expected_at (length (payment b)) d b SegmentZ ≡ true
+pub expected_last : (d : Direction) (b : Option Batch) → 1 ≤ length (payment b) → d ≡ Return → expected_at (length (payment b)) d b SegmentZ ≡ true
 expected_last d b some e = rw (last_position d (payment b) some) (expected_z e)
 
 -- ---- what they count, as they are given: the first counts the payment and its amount, live or withdrawn
@@ -167,13 +167,13 @@ one_tallied : (such : Bool) (r : Record) (fs : List Field) (v : Fields) → leng
 one_tallied such r [] v e = absurd (omega arith)
 one_tallied such r (f ∷ fs) v e = refl
 
-pub first_counts : {d : Direction} {b : Batch} {r : Record} → Expected d b 0 r → (v : Fields) → counts_as r v ≡ one_payment 1 (withdraws_as r v) (amount_of r v)
+pub first_counts : {d : Direction} {b : Option Batch} {r : Record} → Expected d b 0 r → (v : Fields) → counts_as r v ≡ one_payment 1 (withdraws_as r v) (amount_of r v)
 first_counts {r = r} (its_own g) v =
     let one : (such : Bool) → tally_as such r (amounts_of r) v ≡ only such (tally 1 (amount_of r v)) = λ such. one_tallied such r (amounts_of r) v (row g).begins in
     rw ((detail_of r (row g).type).opens, one (not (withdraws_as r v)), one (withdraws_as r v))
 first_counts (behind_last e some q z) v = absurd (omega arith)
 
-pub later_counts : {d : Direction} {b : Batch} {n : ℕ} {r : Record} → Expected d b (suc n) r → (v : Fields) → counts_as r v ≡ bare 0 1
+pub later_counts : {d : Direction} {b : Option Batch} {n : ℕ} {r : Record} → Expected d b (suc n) r → (v : Fields) → counts_as r v ≡ bare 0 1
 later_counts {r = r} (its_own g) v =
     let none : (such : Bool) → tally_as such r (amounts_of r) v ≡ no_payments = λ such. none_tallied such r (amounts_of r) v (row g).begins in
     rw ((detail_of r (row g).type).opens, none (not (withdraws_as r v)), none (withdraws_as r v))

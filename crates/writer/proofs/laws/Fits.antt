@@ -1,6 +1,6 @@
 -- What 20, 23 and 25 are for: in every state that calls leave, the file has room for the records that close it, and the numbers that the writer fills
 -- fit their fields. Assumes nothing.
-use Rattle.std.specs.Prelude.{◌≡◌, refl, true, List, [], ◌∷◌, ℕ, ◌+◌, ◌-◌, ◌^◌, ◌≤◌, ◌<◌, length, Err, Ok}
+use Rattle.std.specs.Prelude.{◌≡◌, refl, true, List, [], ◌∷◌, ℕ, ◌+◌, ◌-◌, ◌^◌, ◌≤◌, ◌<◌, length, Err, Ok, Option}
 use Rattle.std.proofs.Common.{ap, ⊎_elim, arith, leb-true, lit<, lit≤, length-take}
 use Rattle.answer.specs.Limits.{most_records}
 use Rattle.answer.specs.Rules.{AllKept}
@@ -46,7 +46,7 @@ use Rattle.writer.specs.declared.Writer.{Writer}
 -- ---- room for the records that close the file
 
 -- how many they are at least, by phase and kind of batch
-abbrev pub reserve : Phase → Batch → ℕ
+abbrev pub reserve : Phase → Option Batch → ℕ
 reserve Start b = 2
 reserve Headed b = 1
 reserve Opened b = least_details b + trailers
@@ -60,24 +60,24 @@ abbrev Roomy : Checker → Type 0
 Roomy s = records_so_far s + reserve s.phase s.batch ≤ most_records
 
 -- where the file header, a batch trailer and the file trailer may follow
-header_reserve : {d : Direction} {b : Batch} {p : Phase} → Follows d b p FileHeader → reserve p b ≡ 2
+header_reserve : {d : Direction} {b : Option Batch} {p : Phase} → Follows d b p FileHeader → reserve p b ≡ 2
 header_reserve heads = refl
 header_reserve (pays x g) = absurd (omega (arith, (row g).type))
 
-trailer_reserve : {d : Direction} {b : Batch} {p : Phase} → Follows d b p BatchTrailer → reserve p b ≡ trailers
+trailer_reserve : {d : Direction} {b : Option Batch} {p : Phase} → Follows d b p BatchTrailer → reserve p b ≡ trailers
 trailer_reserve (pays x g) = absurd (omega (arith, (row g).type))
 trailer_reserve closes_paid = refl
 trailer_reserve closes_behind_z = refl
 
-end_reserve : {d : Direction} {b : Batch} {p : Phase} → Follows d b p FileTrailer → reserve p b ≡ 1
+end_reserve : {d : Direction} {b : Option Batch} {p : Phase} → Follows d b p FileTrailer → reserve p b ≡ 1
 end_reserve (pays x g) = absurd (omega (arith, (row g).type))
 end_reserve ends = refl
 
-paid_reserve : (s : Checker) (p : Payment) (b : Batch) → AllKept (all_given (expected_in_payment s) s (records_in p)) → reserve (phase_by s (pay p)) b ≡ trailers
+paid_reserve : (s : Checker) (p : Payment) (b : Option Batch) → AllKept (all_given (expected_in_payment s) s (records_in p)) → reserve (phase_by s (pay p)) b ≡ trailers
 paid_reserve s p b k = ⊎_elim (λ q. rw q) (λ q. rw q) (paid_phase s p k)
 
 -- the kind of batch that a call leaves open: a header opens the one that it is given
-abbrev Opens : Call → Checker → Batch → Type 0
+abbrev Opens : Call → Checker → Option Batch → Type 0
 Opens (open_file v) s b = Unit {0}
 Opens (open_batch v) s b = b ≡ kind_given s.dir (taken_as BatchHeader v)
 Opens (pay p) s b = Unit {0}
@@ -92,7 +92,7 @@ opens s (pay p) rs = tt
 opens s (close_batch v) rs = tt
 opens s (close_file v) rs = tt
 
-turn_room : (c : Call) (s : Checker) (b : Batch) → AllKept (turn_limits c s) → AllKept (all_given (expected_in c s) s (records_of c)) → Opens c s b → Roomy s
+turn_room : (c : Call) (s : Checker) (b : Option Batch) → AllKept (turn_limits c s) → AllKept (all_given (expected_in c s) s (records_of c)) → Opens c s b → Roomy s
     → records_so_far s + (put_by c).records.0 + reserve (phase_by s c) b ≤ most_records
 unfolding AllKept
 turn_room (open_file v) s b k rs q h = omega (arith, header_reserve ((in_turn s.phase s.dir s.batch).header k.0))

@@ -1,12 +1,12 @@
 -- The records of a payment that is given: its first, how many they are, and one after the other. Assumes nothing.
-use Rattle.std.specs.Prelude.{◌≡◌, refl, List, [], ◌∷◌, ℕ, suc, ◌<◌, ◌≤◌, length, drop}
+use Rattle.std.specs.Prelude.{◌≡◌, refl, List, [], ◌∷◌, ℕ, suc, ◌<◌, ◌≤◌, length, drop, None, Option, Some}
 use Rattle.std.proofs.Common.{sym, ap, ◌∙◌, arith, lt-ltb, eq-eqb, drop-cons}
 use Rattle.std.proofs.Math.Decide.{dec_lt}
 use Rattle.answer.proofs.laws.Order.{never}
 use Rattle.layout.specs.Records.{code}
 use Rattle.layout.specs.declared.Record.{Record}
 use Rattle.layout.specs.declared.pairs.Batch.{Batch}
-use Rattle.layout.specs.declared.pairs.Batch.TheVariants.{Credit, Boleto, Unknown, Collection}
+use Rattle.layout.specs.declared.pairs.Batch.TheVariants.{Credit, Boleto, Collection}
 use Rattle.layout.specs.declared.Record.TheVariants.{SegmentO}
 use Rattle.layout.specs.declared.shapes.Phase.{Phase}
 use Rattle.layout.specs.declared.shapes.Phase.TheVariants.{Within, Paid}
@@ -33,7 +33,7 @@ some_few (Two a b) = omega arith
 some_few (Three a b c) = omega arith
 
 -- behind an O no record of a payment is due
-o_alone : (b : Batch) → Stands b 0 SegmentO → length (payment b) ≤ 1
+o_alone : (b : Option Batch) → Stands b 0 SegmentO → length (payment b) ≤ 1
 o_alone b g = go (dec_lt 1 (length (payment b)))
   where
     go : Dec (1 < length (payment b)) → length (payment b) ≤ 1
@@ -41,7 +41,7 @@ o_alone b g = go (dec_lt 1 (length (payment b)))
     go (no h) = omega arith
 
 -- where its first is the one that is due, it has as many as its kind of batch asks for
-pub paid_in_full : (b : Batch) (p : Payment) → Stands b 0 (first_in p).which → length (payment b) ≤ length (records_in p)
+pub paid_in_full : (b : Option Batch) (p : Payment) → Stands b 0 (first_in p).which → length (payment b) ≤ length (records_in p)
 paid_in_full b (One x) g = o_alone b g
 paid_in_full b (Two x y) g = omega (arith, brief b)
 paid_in_full b (Three x y z) g = omega (arith, brief b)
@@ -53,17 +53,17 @@ from_position p k h = drop-cons (records_in p) k (first_in p) h
 -- ---- and so many records are a payment
 
 -- a payment of one record begins with an O
-one_o : (b : Batch) {r : Record} → Stands b 0 r → length (payment b) ≤ 1 → r ≡ SegmentO
-one_o Credit g h = absurd (omega arith)
-one_o Boleto g h = absurd (omega arith)
-one_o Unknown g h = absurd (omega (arith, stands_in g))
-one_o Collection g h = one_stands g (record { is = refl })
+one_o : (b : Option Batch) {r : Record} → Stands b 0 r → length (payment b) ≤ 1 → r ≡ SegmentO
+one_o (Some Credit) g h = absurd (omega arith)
+one_o (Some Boleto) g h = absurd (omega arith)
+one_o (Some Collection) g h = one_stands g (record { is = refl })
+one_o None g h = absurd (omega (arith, stands_in g))
 
 -- fields of an O are taken as they are
 taken_o : (v : Fields) → v.which ≡ SegmentO → taken_as SegmentO v ≡ v
 taken_o v e = rw (eq-eqb (code v.which) (code SegmentO) (ap code e)) (λ i. record { which = sym e i; numbers = v.numbers; text = v.text })
 
-pub as_payment : (b : Batch) (g : Fields) (gs : List Fields) → Stands b 0 g.which → length (payment b) ≤ length (g ∷ gs) → length (g ∷ gs) ≤ most_details
+pub as_payment : (b : Option Batch) (g : Fields) (gs : List Fields) → Stands b 0 g.which → length (payment b) ≤ length (g ∷ gs) → length (g ∷ gs) ≤ most_details
     → (p : Payment) × (records_in p ≡ g ∷ gs)
 as_payment b g [] f low high = (one g, ap (λ (v : Fields). v ∷ []) (taken_o g (one_o b f low)))
 as_payment b g (h ∷ []) f low high = (two g h, refl)

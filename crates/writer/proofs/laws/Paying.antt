@@ -1,5 +1,5 @@
 -- The states behind the records of a payment, position by position: where one is expected it may be tried, and the phase behind it. Assumes nothing.
-use Rattle.std.specs.Prelude.{◌≡◌, refl, true, cond, List, [], ◌∷◌, ℕ, zero, suc, ◌+◌, ◌-◌, ◌≤◌, ltb, length, drop}
+use Rattle.std.specs.Prelude.{◌≡◌, refl, true, cond, List, [], ◌∷◌, ℕ, zero, suc, ◌+◌, ◌-◌, ◌≤◌, ltb, length, drop, Option}
 use Rattle.std.proofs.Common.{subst, ◌∙◌, add-one, arith, lt-ltb, le-ltb, drop-drop}
 use Rattle.answer.specs.Rules.{AllKept}
 use Rattle.digits.specs.Digits.{digit_byte}
@@ -31,7 +31,7 @@ use Rattle.writer.proofs.laws.Accepted.{first_expected, later_kept}
 use Rattle.writer.proofs.laws.Turn.{in_turn}
 
 -- the phase behind the record at a position, a Z's too
-abbrev pub phase_at : ℕ → Batch → Phase
+abbrev pub phase_at : ℕ → Option Batch → Phase
 phase_at n b = cond (ltb n (length (payment b))) (phase_behind n b) BehindZ
 
 -- a state behind so many records of a payment that begins in s
@@ -41,7 +41,7 @@ pub data Inside (s : Checker) : ℕ → Checker → Type 0 where
 
 -- ---- a record that is expected
 
-module _ {d : Direction} {b : Batch} where
+module _ {d : Direction} {b : Option Batch} where
   detail_there : {n : ℕ} {r : Record} → Expected d b n r → type_of r ≡ digit_byte 3
   detail_there (its_own g) = (row g).type
   detail_there (behind_last e some q z) = rw z

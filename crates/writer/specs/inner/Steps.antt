@@ -1,5 +1,5 @@
 -- What private steps leave, for their contracts. Assumes nothing.
-use Rattle.std.specs.Prelude.{◌≡◌, Bool, true, cond, Result, IfOk, List, [], ◌∷◌, ◌++◌, ℕ, ◌+◌, ◌≤◌, length, get_or, take, drop, Ok, Err}
+use Rattle.std.specs.Prelude.{◌≡◌, Bool, true, cond, Result, IfOk, List, [], ◌∷◌, ◌++◌, ℕ, ◌+◌, ◌≤◌, length, get_or, take, drop, Ok, Err, Option}
 use Rattle.answer.specs.Rules.{Rule, rules_on_line, refused_as, first_broken, answer_alone, and_then, on_line}
 use Rattle.answer.specs.Output.{room}
 use Rattle.answer.specs.declared.Refusal.{Refusal}
@@ -74,7 +74,7 @@ abbrev pub nth_in : ℕ → Payment → Fields
 nth_in k p = get_or (records_in p) k (first_in p)
 
 -- and whether it is the one that is expected there
-abbrev pub expected_at : ℕ → Direction → Batch → Record → Bool
+abbrev pub expected_at : ℕ → Direction → Option Batch → Record → Bool
 expected_at k d b r = is_one_of r (expected_now (drop k (positions d (payment b))))
 
 -- a payment's records that were accepted: what is behind them all
