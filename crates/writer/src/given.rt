@@ -11,7 +11,7 @@ use layout::Record;
 // The most records of a payment: two and a Z.
 pub(crate) const MOST_RECORDS: usize = 3;
 
-// One record, two or three: no other count of them can be written down.
+// One record, which is an O, two or three: no other count of them can be written down.
 #[derive(Clone, Copy)]
 pub enum Payment {
     One(Fields),
@@ -62,7 +62,7 @@ impl Payment {
         }
     }
 
-    // The record at a position, from 0 on; at any other, the first.
+    // The record at a position, from 0 on; the first where none is.
     pub(crate) fn record_at(self, position: usize) -> Fields
         ensures { result ≡ nth_in position self }
     {
