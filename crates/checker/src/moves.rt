@@ -32,13 +32,13 @@ fn batch_opened(dir: Direction, rec: &[u8; RECORD_BYTES]) -> Option<Batch>
 
 impl Checker {
     // The state behind an accepted line: the file's own lines count in the file, those of a batch in
-    // the open batch, which counts among the closed ones behind its trailer.
+    // the open batch, which counts among the closed ones behind its trailer. What the line counts stands
+    // in each arm: bound once ahead of them, it costs some ten instructions a line.
     pub(crate) fn after(self, reading: Reading) -> Checker
         requires { Bounded self }
         ensures { result ≡ next reading.entry.which self reading.entry.rec.now }
     {
         let Reading { rec, shape, .. } = reading;
-        let counts = counted(shape, rec);
         let moved = Checker {
             phase: shape.after,
             ..self
@@ -48,27 +48,27 @@ impl Checker {
                 dir: direction_of(rec),
                 batch: None,
                 bank: digits::value(&rec[places::BANK_FROM - 1..places::BANK_TO]),
-                closed: self.closed.plus(counts),
+                closed: self.closed.plus(counted(shape, rec)),
                 ..moved
             },
             LineType::BatchFirst => Checker {
                 batch: batch_opened(self.dir, rec),
-                current: self.current.plus(counts),
+                current: self.current.plus(counted(shape, rec)),
                 ..moved
             },
             LineType::Detail => Checker {
-                current: self.current.plus(counts),
+                current: self.current.plus(counted(shape, rec)),
                 ..moved
             },
             LineType::BatchLast => Checker {
                 batch: None,
-                closed: self.closed.plus(self.current.plus(counts)),
+                closed: self.closed.plus(self.current.plus(counted(shape, rec))),
                 current: Totals::none(),
                 ..moved
             },
             LineType::FileLast => Checker {
                 batch: None,
-                closed: self.closed.plus(counts),
+                closed: self.closed.plus(counted(shape, rec)),
                 ..moved
             },
         }

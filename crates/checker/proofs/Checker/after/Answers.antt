@@ -5,9 +5,9 @@ use Rattle.checker.proofs.Checker.after.Goals as goal
 pub plus-requires-in-Detail : goal.plus-requires-in-Detail
 plus-requires-in-Detail c =
     let reading = c.args.reading in
-    rw (c.counted-counts.ensures, reading.row) (room c.requires reading.which reading.rec.now).in-batch
+    rw (c.counted-in-Detail.ensures, reading.row) (room c.requires reading.which reading.rec.now).in-batch
 
 pub plus-requires-in-BatchLast-2 : goal.plus-requires-in-BatchLast-2
 plus-requires-in-BatchLast-2 c =
     let reading = c.args.reading in
-    rw (c.plus-in-BatchLast.ensures, c.counted-counts.ensures, reading.row) (room c.requires reading.which reading.rec.now).at_end
+    rw (c.plus-in-BatchLast.ensures, c.counted-in-BatchLast.ensures, reading.row) (room c.requires reading.which reading.rec.now).at_end
