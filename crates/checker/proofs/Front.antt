@@ -1,8 +1,8 @@
 -- The rules of a line up to its type, and those from its type on. Assumes nothing.
-use Rattle.std.specs.Prelude.{◌≡◌, refl, false, List, [], ◌∷◌, ◌++◌, ℕ, Option, None, Some, Result, Err, Ok, IsErr, IsErrAnd}
+use Rattle.std.specs.Prelude.{◌≡◌, refl, false, List, [], ◌∷◌, ℕ, Option, None, Some, Result, Err, Ok, IsErr, IsErrAnd}
 use Rattle.std.proofs.Common.{sym, ◌∙◌, ap}
 use Rattle.std.proofs.lemmas.Result.{err_from_is_err_and}
-use Rattle.answer.specs.Rules.{Rule, Answer, rule, first_broken, answer_alone, refusal, no_line}
+use Rattle.answer.specs.Rules.{Answer, rule, first_broken, answer_alone, refusal, no_line}
 use Rattle.answer.specs.declared.Refusal.{Refusal}
 use Rattle.answer.proofs.laws.Order.{past, here, gone_on, stopped}
 use Rattle.layout.specs.Table.{type_place}
@@ -11,13 +11,6 @@ use Rattle.checker.specs.Line.{record_in, line_is, found, rules_as, reading_rule
 use Rattle.checker.specs.Machine.{next}
 use Rattle.checker.specs.inner.Steps.{behind_by, front_rules}
 use Rattle.checker.specs.declared.Checker.{Checker}
-
--- a call that hands a value on left with the refusal that the first rules gave it
-module _ (xs ys : List Rule) {a : Answer} (asked : a ≡ first_broken xs) where
-  pub turns_back : {A : Type 0} (b : Result A Refusal) {e : Refusal} → a ≡ Err e → IsErr b × IsErrAnd b (λ y. y ≡ e) → answer_alone b ≡ first_broken (xs ++ ys)
-  turns_back {A} b {e} was out =
-      let p = err_from_is_err_and b out.1 in
-      rw (p.1, p.2) (stopped xs ys e (sym asked ∙ was))
 
 -- the state behind a line, or its first refusal: of its front, of its type, or of the record that it is read as
 module _ (s : Checker) (line : List ℕ) where

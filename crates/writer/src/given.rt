@@ -62,14 +62,15 @@ impl Payment {
         }
     }
 
-    // The record at a position, from 0 on; the first where none is.
+    // The record at a position, from 0 on. No position behind the last is asked for.
     pub(crate) fn record_at(self, position: usize) -> Fields
         ensures { result ≡ nth_in position self }
     {
         match (self, position) {
+            (_, 0) => self.first_record(),
             (Payment::Two(_, second) | Payment::Three(_, second, _), 1) => second,
-            (Payment::Three(_, _, third), 2) => third,
-            _ => self.first_record(),
+            (Payment::Three(_, _, third), _) => third,
+            (Payment::One(_) | Payment::Two(_, _), _) => Fields::none(Record::SegmentZ),
         }
     }
 }

@@ -63,6 +63,20 @@ together r rec = let p = go (shape_of r).amount (withdraws rec) in record { paym
     go (Some OfJ) w = both_parts w (tally 1 (value (part boleto_amount rec)))
     go (Some OfO) w = both_parts w (tally 1 (value (part collection_amount rec)))
 
+-- the payment that is begun, whatever its movement; and it, or none
+pub all_tallied : (a : Option Amount) (rec : List ℕ) → tallied true (amount_field a) rec ≡ tally (length (amount_field a)) (cents_in (amount_field a) rec)
+all_tallied None rec = refl
+all_tallied (Some OfA) rec = refl
+all_tallied (Some OfJ) rec = refl
+all_tallied (Some OfO) rec = refl
+
+pub only_tallied : (such : Bool) (a : Option Amount) (rec : List ℕ) → only such (tallied true (amount_field a) rec) ≡ tallied such (amount_field a) rec
+only_tallied true None rec = refl
+only_tallied false None rec = refl
+only_tallied such (Some OfA) rec = refl
+only_tallied such (Some OfJ) rec = refl
+only_tallied such (Some OfO) rec = refl
+
 -- what a state counts in all
 abbrev pub counted : Checker → Totals
 counted s = add s.closed s.current

@@ -1,6 +1,6 @@
 -- Where a record's bytes lie between its masks, the rules are kept of each field whose mask is all that they ask. Assumes nothing.
 use Rattle.std.specs.Prelude.{◌≡◌, refl, Bool, true, false, cond, ◌&&◌, ◌||◌, leb, ltb, eqb, length, get_or, take, drop, replicate, Ok}
-use Rattle.std.proofs.Common.{sym, ap, ◌∙◌, le_of_suc-le-suc, not-suc-le-zero, le_antisymm, leb-true, eq-eqb, eqb→eq, leb→le, drop-drop, ext_get_or}
+use Rattle.std.proofs.Common.{sym, ap, ◌∙◌, add-zero, le_of_suc-le-suc, not-suc-le-zero, le_antisymm, add-one, leb-true, eq-eqb, eqb→eq, leb→le, drop-cons, get_or-drop, drop-drop, ext_get_or}
 use Rattle.std.proofs.Math.Path.{subst}
 use mathlib.Core.List.{List, [], ◌∷◌, ◌++◌}
 use Prim.Native.Nat.{ℕ, zero, suc, ◌+◌, ◌-◌, ◌≤◌, ◌<◌}
@@ -34,6 +34,14 @@ use Rattle.layout.proofs.laws.Columns.{in_record}
 use Rattle.layout.specs.declared.Direction.{Direction}
 use Rattle.layout.specs.declared.Direction.TheVariants.{Remittance, Return}
 use Rattle.layout.specs.declared.Record.{Record}
+
+-- a turn of a loop that tests
+pub within_turn : (low high rec : List ℕ) (i : ℕ) → i < length rec
+    → within (drop i low) (drop i high) (drop i rec)
+    ≡ (leb (get_or low i 0) (get_or rec i 0) && leb (get_or rec i 0) (get_or high i 0)) && within (drop (suc i) low) (drop (suc i) high) (drop (suc i) rec)
+unfolding within
+within_turn low high rec i h =
+    rw (drop-cons rec i 0 h, get_or-drop i low 0 0, get_or-drop i high 0 0, drop-drop 1 i low, drop-drop 1 i high, add-one i, add-zero i)
 
 -- the test of a byte and its bounds, and then of all
 abbrev pub fits_so_far : Bool → ℕ × (ℕ × ℕ) → Bool

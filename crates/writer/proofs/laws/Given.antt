@@ -1,5 +1,5 @@
 -- The records of a payment that is given: its first, how many they are, and one after the other. Assumes nothing.
-use Rattle.std.specs.Prelude.{◌≡◌, refl, List, [], ◌∷◌, ℕ, suc, ◌<◌, ◌≤◌, length, drop, None, Option, Some}
+use Rattle.std.specs.Prelude.{◌≡◌, refl, List, [], ◌∷◌, ℕ, zero, suc, ◌<◌, ◌≤◌, length, drop, None, Option, Some}
 use Rattle.std.proofs.Common.{sym, ap, ◌∙◌, arith, lt-ltb, eq-eqb, drop-cons}
 use Rattle.std.proofs.Math.Decide.{dec_lt}
 use Rattle.answer.proofs.laws.Order.{never}
@@ -18,7 +18,7 @@ use Rattle.checker.proofs.laws.Payments.{brief, row, stands_in, one_stands}
 use Rattle.checker.specs.inner.Following.{Stands}
 use Rattle.writer.specs.Given.{one, two, three, first_in, records_in}
 use Rattle.writer.specs.Refusals.{turns}
-use Rattle.writer.specs.inner.Steps.{nth_in}
+use Rattle.writer.specs.inner.Steps.{third_in, nth_in}
 use Rattle.writer.specs.declared.given.Payment.{Payment}
 use Rattle.writer.specs.declared.given.Payment.TheVariants.{One, Two, Three}
 
@@ -48,7 +48,16 @@ paid_in_full b (Three x y z) g = omega (arith, brief b)
 
 -- from a position on
 pub from_position : (p : Payment) (k : ℕ) → k < length (records_in p) → drop k (records_in p) ≡ nth_in k p ∷ drop (suc k) (records_in p)
-from_position p k h = drop-cons (records_in p) k (first_in p) h
+from_position p k h = drop-cons (records_in p) k (third_in p) h
+
+-- behind the second, the third
+pub the_third : (p : Payment) (k : ℕ) → 2 ≤ k → nth_in k p ≡ third_in p
+the_third p zero h = absurd (omega arith)
+the_third p (suc zero) h = absurd (omega arith)
+the_third (One a) (suc (suc k)) h = refl
+the_third (Two a b) (suc (suc k)) h = refl
+the_third (Three a b c) (suc (suc zero)) h = refl
+the_third (Three a b c) (suc (suc (suc k))) h = refl
 
 -- ---- and so many records are a payment
 

@@ -9,8 +9,9 @@ use Rattle.layout.specs.Table.{segment_place}
 use Rattle.layout.specs.Record.{byte_rule}
 use Rattle.layout.specs.declared.Direction.{Direction}
 use Rattle.layout.specs.declared.Record.{Record}
+use Rattle.layout.specs.declared.Record.TheVariants.{SegmentZ}
 use Rattle.layout.specs.declared.pairs.Batch.{Batch}
-use Rattle.fields.specs.Values.{record_of, made_of}
+use Rattle.fields.specs.Values.{no_fields, record_of, made_of}
 use Rattle.fields.specs.declared.Fields.{Fields}
 use Rattle.fields.specs.declared.writing.Made.{Made}
 use Rattle.checker.specs.Order.{payment}
@@ -19,11 +20,12 @@ use Rattle.checker.specs.Machine.{line_of, sound, most_details}
 use Rattle.checker.specs.inner.Following.{Follows}
 use Rattle.checker.specs.inner.Following.{Limit}
 use Rattle.checker.specs.declared.Checker.{Checker}
-use Rattle.writer.specs.Given.{first_in, records_in}
+use Rattle.writer.specs.Given.{records_in}
 use Rattle.filling.specs.Filling.{filled}
 use Rattle.writer.specs.Refusals.{turn_rule, turns, sum_rule, positions, expected_in_payment, expected_now, given_on_line, next_by, all_given, held}
 use Rattle.writer.specs.Outcome.{lines_for, behind_all, cursor_behind, state_after, output_after}
 use Rattle.writer.specs.declared.given.Payment.{Payment}
+use Rattle.writer.specs.declared.given.Payment.TheVariants.{One, Two, Three}
 use Rattle.writer.specs.declared.records.Tried.{Tried}
 use Rattle.writer.specs.declared.payments.TriedPayment.{TriedPayment}
 use Rattle.writer.specs.declared.Writer.{Writer}
@@ -69,9 +71,15 @@ pub data AllRight : List Made → Type 0 where
   none_made : AllRight []
   one_more : {m : Made} {ms : List Made} → m.answer ≡ Ok tt → AllRight ms → AllRight (m ∷ ms)
 
+-- the third of a payment's records; a place that is not used has none
+abbrev pub third_in : Payment → Fields
+third_in (One a) = no_fields SegmentZ
+third_in (Two a b) = no_fields SegmentZ
+third_in (Three a b c) = c
+
 -- the record of a payment at a position, from 0 on
 abbrev pub nth_in : ℕ → Payment → Fields
-nth_in k p = get_or (records_in p) k (first_in p)
+nth_in k p = get_or (records_in p) k (third_in p)
 
 -- and whether it is the one that is expected there
 abbrev pub expected_at : ℕ → Direction → Option Batch → Record → Bool

@@ -1,9 +1,8 @@
 -- `checker::Checker::check_front` meets its contract. Assumes nothing.
 use Rattle.std.proofs.Common.{◌≢◌, ◌∙◌, length, arith, eq-eqb, ne_eqb, sym}
 use Rattle.answer.proofs.laws.Order.{here, past}
-use Rattle.answer.proofs.laws.Leaving.{goes_on}
+use Rattle.answer.proofs.laws.Leaving.{turns_back, goes_on}
 use Rattle.checker.specs.Line.{line_bytes}
-use Rattle.checker.proofs.Front.{turns_back}
 use Rattle.checker.proofs.Checker.check_front.Goals as goal
 use Rattle.checker.proofs.Checker.check_front.Goals.{in_default-via-in-Some+else-line-eq-LINE_BYTES, in_default-via-in_default}
 
