@@ -1,4 +1,5 @@
-// The rules of a line, in the paper's order.
+// The rules of a line, in the paper's order. Those of one record are all asked and joined by `and`:
+// left by `?`, each would add an answer to its proof that repeats those before it.
 ghost use Rattle.std.specs.Prelude.{◌≡◌, ◌∷◌, [], IfOk};
 ghost use Rattle.answer.specs.Rules.{first_broken, answer_alone};
 ghost use Rattle.layout.specs.Records.{shape_of};

@@ -30,6 +30,7 @@ pub struct Writer {
     cursor: usize,
 }
 
+// State and answer side by side, and no result: a refused call leaves a state too.
 #[derive(Clone, Copy)]
 pub struct Written {
     pub state: Writer,
@@ -75,7 +76,8 @@ impl Writer {
         answer::test(numbers::NO_ROOM, 0, has_room(self.cursor, bytes, out.len()))
     }
 
-    // The state behind a call, or where the call is refused the one before it; and the answer.
+    // The state behind a call, or where the call is refused the one before it; and the answer. What the
+    // five calls share is this, `write_one` and `write_payment`: each has its turn and its records.
     fn hand_back(self, behind: Result<Writer, Refusal>) -> Written
         ensures { result ≡ handed_back self behind }
     {
