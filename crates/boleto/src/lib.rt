@@ -1,5 +1,6 @@
 // A boleto's two digit strings, the barcode of 44 digits and the line of 47: checked, and turned
-// into each other. `collection` does the same for the code of water, power and taxes.
+// into each other. `collection` does the same for the code of water, power and taxes, and says why what
+// is alike there and here stands twice.
 #![tactic(auto)]
 
 pub mod collection;

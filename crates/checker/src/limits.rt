@@ -25,7 +25,9 @@ const FILE_RECORDS: RecordCount = RecordCount(2100142);
 const FILE_PAYMENTS: u64 = 700000;
 
 impl Checker {
-    // With these bounds no sum of a line can wrap.
+    // With these bounds no sum of a line can wrap. What goes by a state that has them asks for them by a
+    // clause: a type for it would be made inside, since `step` and `fill` take every state, and each read
+    // of a state would say `.0`.
     pub fn is_sound(self) -> bool
         ensures { result ≡ sound self }
     {

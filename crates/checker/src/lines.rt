@@ -1,5 +1,6 @@
-// The rules of a line, in the paper's order. Those of one record are all asked and joined by `and`:
-// left by `?`, each would add an answer to its proof that repeats those before it.
+// The rules of a line, in the paper's order. Those of one record are all asked and joined by `and`, here
+// and in the house's rules: four of them owe one answer of six lines so (`check_boleto`), and four that
+// are left by `?` owe four of twenty-five (boleto's `check_digits`).
 ghost use Rattle.std.specs.Prelude.{◌≡◌, ◌∷◌, [], IfOk};
 ghost use Rattle.answer.specs.Rules.{first_broken, answer_alone};
 ghost use Rattle.layout.specs.Records.{shape_of};
@@ -22,11 +23,11 @@ const BEHIND_TYPE: usize = 3;
 const BEHIND_SEGMENT: usize = 5;
 
 // Where the counts stand among a trailer's fields.
-const BATCH_RECORDS: usize = names::BATCH_TRAILER_RECORDS.1;
+const BATCH_RECORDS_FIELD: usize = names::BATCH_TRAILER_RECORDS.1;
 
-const FILE_BATCHES: usize = names::FILE_TRAILER_BATCHES.1;
+const FILE_BATCHES_FIELD: usize = names::FILE_TRAILER_BATCHES.1;
 
-const FILE_RECORDS: usize = names::FILE_TRAILER_RECORDS.1;
+const FILE_RECORDS_FIELD: usize = names::FILE_TRAILER_RECORDS.1;
 
 fn check_batch(k: u64, rec: &[u8; RECORD_BYTES]) -> Answer
     ensures { result ≡ first_broken (batch_number k rec.now ∷ []) }
@@ -113,7 +114,7 @@ impl Checker {
         let which = Record::BatchTrailer;
         let bank = self.check_bank(rec);
         let batch = check_batch(self.closed.batches() + 1, rec);
-        let behind = BATCH_RECORDS + 1;
+        let behind = BATCH_RECORDS_FIELD + 1;
         let fields = walk::check_parts(rec, which, self.dir, BEHIND_TYPE, behind, behind);
         let place = &rec[places::FIRST_COUNT_FROM - 1..places::FIRST_COUNT_TO];
         let records = check_records(
@@ -146,8 +147,8 @@ impl Checker {
         let which = Record::FileTrailer;
         let bank = self.check_bank(rec);
         let batch = check_batch(TRAILER_BATCH, rec);
-        let behind_batches = FILE_BATCHES + 1;
-        let behind_records = FILE_RECORDS + 1;
+        let behind_batches = FILE_BATCHES_FIELD + 1;
+        let behind_records = FILE_RECORDS_FIELD + 1;
         let fields = walk::check_parts(
             rec,
             which,

@@ -11,6 +11,7 @@ use super::reading::Reading;
 use super::totals::{Totals, counted};
 use layout::{Batch, Direction, LineType, RECORD_BYTES, places};
 
+// No `From` a byte: that any byte but '2' is a remittance holds of a header whose fields were checked.
 fn direction_of(rec: &[u8; RECORD_BYTES]) -> Direction
     ensures { result ≡ direction_of rec.now }
 {

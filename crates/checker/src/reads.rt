@@ -9,12 +9,14 @@ use answer::{Answer, Cents, RecordCount};
 pub(crate) fn check_number(number: u8, place: usize, k: u64, part: &[u8]) -> Answer
     ensures { result ≡ first_broken (digits_read number place k part.now ∷ []) }
 {
-    match digits::number_of(part) {
-        Some(n) => answer::test(number, place, n == k),
-        None => answer::refused(number, place),
-    }
+    answer::test(
+        number,
+        place,
+        digits::number_of(part).is_some_and(|n| n == k),
+    )
 }
 
+// Beside `check_cents` and not one with it: cents can't be handed over for records, nor records for cents.
 pub(crate) fn check_records(number: u8, place: usize, k: RecordCount, part: &[u8]) -> Answer
     ensures { result ≡ first_broken (digits_read number place k.0 part.now ∷ []) }
 {

@@ -166,17 +166,14 @@ impl Totals {
 fn batches_by(line: LineType) -> u64
     ensures { result ≡ opens line }
 {
-    (line == LineType::BatchFirst) as u64
+    u64::from(line == LineType::BatchFirst)
 }
 
 // The payments that a line begins: one, if it has an amount.
 pub(crate) fn payments_by(amount: Option<Amount>) -> u64
     ensures { (result ≡ length (amount_field amount)) × (result ≤ 1) }
 {
-    match amount {
-        None => 0,
-        Some(_) => 1,
-    }
+    u64::from(amount.is_some())
 }
 
 fn cents_by(kind: Option<Amount>, rec: &[u8; RECORD_BYTES]) -> Cents

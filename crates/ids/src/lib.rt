@@ -7,7 +7,8 @@ ghost use Rattle.ids.specs.Ids.{registration_of, is_cpf, has_cnpj_characters, is
 
 use digits::Modulus;
 
-// What the type beside a number says that it is.
+// What the type beside a number says that it is. What isn't checked is a kind of its own and no
+// `None`: its characters are digits all the same.
 #[derive(Clone, Copy)]
 pub enum Registration {
     Unchecked,

@@ -17,7 +17,7 @@ const BATCH_NUMBER: usize = 1; // 4-7
 // All details
 const DETAIL_NUMBER: usize = 3; // 9-13
 
-// The bank, in a record.
+// The bank, in a record. These three are public names, of what all lines or all details have.
 pub fn bank(of: Record) -> Name
     ensures { result ≡ name_of of bank_field }
 {

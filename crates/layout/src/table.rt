@@ -1,4 +1,5 @@
-// The table as numbers: first place, last place and kind of each field, one record after the other.
+// The whole table is held as numbers, in const arrays: first place, last place and kind of each field,
+// one record after the other.
 ghost use Rattle.std.specs.Prelude.{◌≡◌, get_or};
 ghost use Rattle.layout.specs.Field.{none};
 ghost use Rattle.layout.specs.Table.{all};
@@ -305,7 +306,7 @@ pub fn span_of(which: Record) -> Span
     }
 }
 
-// A byte as a number of the machine's width.
+// A byte as a number of the machine's width: a public promise, as `usize::from` has it.
 pub fn wide(b: u8) -> usize
     ensures { result ≡ b }
 {

@@ -47,7 +47,8 @@ const HEADER_BYTES: usize = 16;
 // What output memory holds before a call.
 const UNTOUCHED: u8 = 170;
 
-// Makes the call, and writes its answer and the output memory.
+// Makes the call, and writes its answer and the output memory. The calls have other arguments each, so
+// that a table of functions would have to make them alike first.
 fn call(rt: &impl Print, op: Op, payload: &[u8], out: &mut [u8]) -> io::Result<()> {
     out.fill(UNTOUCHED);
     match op {

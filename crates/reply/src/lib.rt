@@ -12,7 +12,7 @@ use checker::{Live, Totals, Withdrawn};
 use files::Outcome;
 use std::fmt;
 
-// What a line says.
+// What a line says: a type of its own, since a `Result` can't be given a `Display` here.
 #[derive(Clone, Copy)]
 pub enum Line {
     // `OK`.
