@@ -1,15 +1,11 @@
 -- Small numbers of the moduli. Assumes nothing.
 use Rattle.std.proofs.Common.{◌≡◌, ℕ, ◌-◌, ◌*◌, ◌%◌, ◌<◌, ◌≤◌, false, cond, T, eqb, ltb, List, [], ◌∷◌, length, refl, mul-le-mul, arith, eqb→eq, ne_eqb}
-use Rattle.digits.specs.Digits.{digit_byte, place, without}
-use Rattle.digits.specs.Checks.{base, weight, counts, lift, check_digit, sealed, ends_right, ends_right_twice}
+use Rattle.digits.specs.Digits.{digit_byte}
+use Rattle.digits.specs.Checks.{base, weight, counts, lift, check_digit, ends_right, ends_right_twice}
 use Rattle.digits.specs.inner.Steps.{most_value, most_count}
 use Rattle.digits.specs.declared.sealing.Modulus.{Modulus}
 use Rattle.digits.specs.declared.sealing.Modulus.TheVariants.{Ten, Eleven, PlainEleven, LongEleven}
 use Rattle.digits.proofs.laws.Tests.{every, every_at}
-
--- where no byte stands, no check digit does
-pub unsealed : (m : Modulus) (p : ℕ) (bs : List ℕ) → place p bs ≡ 0 → sealed m p bs ≡ false
-unsealed m p bs z = rw z (ne_eqb 0 (digit_byte (check_digit m (without p bs))) (λ e. omega arith))
 
 -- an empty string does not end right
 pub ends_wrong : (m : Modulus) (bs : List ℕ) → length bs ≡ 0 → ends_right m bs ≡ false

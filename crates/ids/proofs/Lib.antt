@@ -1,3 +1,2 @@
 -- Laws on plain values, for the proofs of this crate's functions.
-mod Parts
 pub mod laws
