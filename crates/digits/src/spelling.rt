@@ -49,7 +49,8 @@ pub fn number_of(s: &[u8]) -> Option<u64>
     Some(spelled(s))
 }
 
-// n over the whole part, from the right: its digits behind zeros, or stars where some are left.
+// n over the whole part, from the right: its digits behind zeros, or stars where some are left. By
+// index: of a loop over `iter_mut().rev()` nothing says what the part holds behind it.
 pub fn write_number(n: u64, part: &mut [u8])
     ensures { part.new ≡ numeral (length part.old) n }
 {

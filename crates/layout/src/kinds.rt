@@ -81,25 +81,14 @@ pub fn fill_of(k: u8) -> Fill
         return Fill::Fixed(Content::Run(k));
     }
     match k {
-        N => Fill::Number,
-        D => Fill::Number,
-        TIME => Fill::Number,
-        ZERO_ONE_TWO => Fill::Number,
-        ZERO_NINE => Fill::Number,
-        ONE_TWO => Fill::Number,
-        SERVICE => Fill::Number,
-        FORM => Fill::Number,
-        ID => Fill::Text,
-        BARCODE => Fill::Text,
-        T => Fill::Text,
-        O => Fill::Text,
+        N | D | TIME | ZERO_NINE | SERVICE | FORM | ZERO_ONE_TWO | ONE_TWO | N_OR_BLANK => {
+            Fill::Number
+        }
         K => Fill::Fixed(Content::Run(BLANK)),
         ZEROS => Fill::Fixed(Content::Run(ZERO)),
         EXACT_C => Fill::Fixed(Content::LetterC),
         EXACT_09 => Fill::Fixed(Content::Code09),
         EXACT_52 => Fill::Fixed(Content::Code52),
-        N_OR_BLANK => Fill::Number,
-        CODE => Fill::Text,
         _ => Fill::Text,
     }
 }

@@ -8,7 +8,7 @@ use ids::Registration;
 fn index_before(from: usize) -> usize
     ensures { result ≡ from - 1 - 1 }
 {
-    if from < 2 { 0 } else { from - 2 }
+    from.saturating_sub(2)
 }
 
 // What the registration number is that begins at the place `from` of a record, by the byte before it;
@@ -16,9 +16,6 @@ fn index_before(from: usize) -> usize
 pub fn registration_at(rec: &[u8], from: usize) -> Registration
     ensures { result ≡ registration_at from rec.now }
 {
-    let at = index_before(from);
-    if rec.len() <= at {
-        return Registration::Unchecked;
-    }
-    Registration::from(rec[at])
+    rec.get(index_before(from))
+        .map_or(Registration::Unchecked, |b| Registration::from(*b))
 }

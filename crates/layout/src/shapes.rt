@@ -1,8 +1,7 @@
 // The records, a row each: what a record is to the file.
-ghost use Rattle.std.specs.Prelude.{◌≡◌, eqb, Some, None};
+ghost use Rattle.std.specs.Prelude.{◌≡◌, eqb, None};
 ghost use Rattle.layout.specs.Records.{code, is_detail, shape, no_letter, shape_of};
 ghost use Rattle.layout.specs.declared.shapes.LineType.TheVariants.{Detail};
-ghost use Rattle.layout.specs.declared.shapes.House.TheVariants.{OneId};
 
 use super::Record;
 
@@ -71,9 +70,9 @@ pub struct Shape {
 
 const NO_LETTER: u8 = 0;
 
-// Beside `trailer` and not one with it: what differs, the house's rule, would be an argument of both.
-fn header(code: usize, line: LineType, after: Phase) -> Shape
-    ensures { result ≡ shape code line no_letter after None (Some OneId) }
+// The row of a header or a trailer, which has no letter and no amount.
+fn end(code: usize, line: LineType, after: Phase, house: Option<House>) -> Shape
+    ensures { result ≡ shape code line no_letter after None house }
 {
     Shape {
         code,
@@ -81,20 +80,7 @@ fn header(code: usize, line: LineType, after: Phase) -> Shape
         letter: NO_LETTER,
         after,
         amount: None,
-        house: Some(House::OneId),
-    }
-}
-
-fn trailer(code: usize, line: LineType, after: Phase) -> Shape
-    ensures { result ≡ shape code line no_letter after None None }
-{
-    Shape {
-        code,
-        line,
-        letter: NO_LETTER,
-        after,
-        amount: None,
-        house: None,
+        house,
     }
 }
 
@@ -122,8 +108,8 @@ pub fn shape_of(which: Record) -> Shape
     ensures { result ≡ shape_of which }
 {
     match which {
-        Record::FileHeader => header(0, LineType::FileFirst, Phase::Headed),
-        Record::BatchHeader => header(1, LineType::BatchFirst, Phase::Opened),
+        Record::FileHeader => end(0, LineType::FileFirst, Phase::Headed, Some(House::OneId)),
+        Record::BatchHeader => end(1, LineType::BatchFirst, Phase::Opened, Some(House::OneId)),
         Record::SegmentA => detail(2, b'A', Phase::Within(1), Some(Amount::OfA), None),
         Record::SegmentB => detail(3, b'B', Phase::Paid, None, Some(House::OneId)),
         Record::SegmentJ => detail(
@@ -135,8 +121,8 @@ pub fn shape_of(which: Record) -> Shape
         ),
         Record::SegmentJ52 => detail(5, b'J', Phase::Paid, None, Some(House::ThreeIds)),
         Record::SegmentZ => detail(6, b'Z', Phase::BehindZ, None, None),
-        Record::BatchTrailer => trailer(7, LineType::BatchLast, Phase::Closed),
-        Record::FileTrailer => trailer(8, LineType::FileLast, Phase::Ended),
+        Record::BatchTrailer => end(7, LineType::BatchLast, Phase::Closed, None),
+        Record::FileTrailer => end(8, LineType::FileLast, Phase::Ended, None),
         Record::SegmentO => detail(
             9,
             b'O',
