@@ -78,11 +78,9 @@ fn kind_given(dir: Direction, v: Fields) -> Option<Batch>
 fn least_details(batch: Option<Batch>) -> RecordCount
     ensures { (result.0 ≡ least_details batch) × (result.0 ≤ most_details) }
 {
-    let records = checker::records_of(batch);
-    if records == 0 {
-        LEAST_DETAILS
-    } else {
-        RecordCount(records as u64)
+    match batch {
+        None => LEAST_DETAILS,
+        Some(_) => RecordCount(u64::from(checker::records_of(batch))),
     }
 }
 
