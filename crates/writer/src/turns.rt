@@ -5,6 +5,7 @@ ghost use Rattle.checker.specs.Machine.{most_details};
 ghost use Rattle.writer.specs.Refusals.{turns, records_so_far, kind_given, least_details, fits_file, batch_limits, payment_limits, held};
 ghost use Rattle.writer.specs.inner.Steps.{turn_of};
 
+use super::given::MOST_RECORDS;
 use answer::{Answer, RecordCount, numbers};
 use checker::{Checker, MOST_BATCHES, MOST_PAYMENTS};
 use fields::Fields;
@@ -18,9 +19,6 @@ const LEAST_DETAILS: RecordCount = RecordCount(2);
 
 // The trailers of the batch and of the file.
 const TRAILERS: RecordCount = RecordCount(2);
-
-// A payment's records are at most so many, and so a batch's are bounded by its payments.
-const MOST_DETAILS: u64 = 3;
 
 // The calls that are in turn: what opens the file, a batch; a payment; what closes the batch, the file.
 #[derive(Clone, Copy)]
@@ -53,7 +51,8 @@ fn is_held(m: Checker) -> bool
     }
     let closed = m.closed();
     let current = m.current();
-    let few = current.records().0 <= 1 + MOST_DETAILS * current.payments();
+    // A payment's records are bounded, and so a batch's are by its payments.
+    let few = current.records().0 <= 1 + MOST_RECORDS as u64 * current.payments();
     few & closed.cents().fit_a_file(current.cents())
 }
 
