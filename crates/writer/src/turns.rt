@@ -1,8 +1,8 @@
 // Which call is in turn, and what the file has room for: 51, 20 and 25.
-ghost use Rattle.std.specs.Prelude.{◌≡◌, ◌≤◌};
+ghost use Rattle.std.specs.Prelude.{◌≡◌, ◌≤◌, ◌∷◌, []};
 ghost use Rattle.answer.specs.Rules.{first_broken};
 ghost use Rattle.checker.specs.Machine.{most_details};
-ghost use Rattle.writer.specs.Refusals.{turns, records_so_far, kind_given, least_details, fits_file, batch_limits, payment_limits, held};
+ghost use Rattle.writer.specs.Refusals.{turn_rule, turns, records_so_far, kind_given, least_details, fits_file, batch_limits, payment_limits, held};
 ghost use Rattle.writer.specs.inner.Steps.{turn_of};
 
 use super::given::MOST_RECORDS;
@@ -103,13 +103,19 @@ pub(crate) fn payment_limits(m: Checker, details: RecordCount) -> Answer
     answer::test(numbers::TOO_LONG, 0, fits_file(m, details.plus(TRAILERS)))
 }
 
-// The answer before any record is looked at.
-pub(crate) fn check_turn(m: Checker, may: bool, limits: Answer) -> Answer
-    ensures { result ≡ turn_of m may limits }
+// A call's answer by its turn alone.
+pub(crate) fn test_turn(may: bool) -> Answer
+    ensures { result ≡ first_broken (turn_rule may ∷ []) }
+{
+    answer::test(numbers::OUT_OF_TURN, 0, may)
+}
+
+// The answer before any record is looked at: what is asked of the call, on the line that is next.
+pub(crate) fn check_turn(m: Checker, asked: Answer) -> Answer
+    ensures { result ≡ turn_of m asked }
 {
     if !is_held(m) {
         return answer::refused(numbers::OUT_OF_TURN, 0);
     }
-    let asked = answer::test(numbers::OUT_OF_TURN, 0, may).and(limits);
     answer::on_line(asked, m.next_line())
 }

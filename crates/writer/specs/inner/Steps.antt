@@ -22,7 +22,7 @@ use Rattle.checker.specs.inner.Following.{Limit}
 use Rattle.checker.specs.declared.Checker.{Checker}
 use Rattle.writer.specs.Given.{records_in}
 use Rattle.filling.specs.Filling.{filled}
-use Rattle.writer.specs.Refusals.{turn_rule, turns, sum_rule, positions, expected_in_payment, expected_now, given_on_line, next_by, all_given, held}
+use Rattle.writer.specs.Refusals.{turns, sum_rule, positions, expected_in_payment, expected_now, given_on_line, next_by, all_given, held}
 use Rattle.writer.specs.Outcome.{lines_for, behind_all, cursor_behind, state_after, output_after}
 use Rattle.writer.specs.declared.given.Payment.{Payment}
 use Rattle.writer.specs.declared.given.Payment.TheVariants.{One, Two, Three}
@@ -31,9 +31,9 @@ use Rattle.writer.specs.declared.Writer.{Writer}
 use Rattle.writer.specs.declared.Written.{Written}
 use Rattle.checker.specs.Totals.{payment_count}
 
--- 51, and then the limits, on the line that is next
-abbrev pub turn_of : Checker → Bool → Answer → Answer
-turn_of s may limits = cond (held s) (on_line (line_of s) (and_then (first_broken (turn_rule may ∷ [])) limits)) (refused_as 51 0)
+-- what is asked of a call, its turn and its limits, on the line that is next; of a state that is not held 51
+abbrev pub turn_of : Checker → Answer → Answer
+turn_of s asked = cond (held s) (on_line (line_of s) asked) (refused_as 51 0)
 
 -- 4, 11 and the fields: of a record that is expected as it is made; of another 4 and 11
 abbrev pub kind_answer : Bool → Made → Fields → Record → Answer
