@@ -146,7 +146,7 @@ impl Writer {
         })
     }
 
-    // Two records, or in a return perhaps three.
+    // A payment's records: one, which is an O, or two; and in a return perhaps a Z behind them.
     pub fn payment(self, p: Payment, out: &mut [u8]) -> Written
         ensures { Wrote self (pay p) out.old out.new result }
     {
