@@ -3,7 +3,7 @@ use Rattle.std.specs.Prelude.{Result, IsErr, IsErrAnd, Err, Ok}
 use Rattle.std.proofs.Common.{subst}
 use Rattle.answer.proofs.laws.Leaving.{left_with}
 use mathlib.Core.Path.{◌≡◌, refl, sym, ap, ◌∙◌}
-use mathlib.Core.Bool.{Bool, true, cond}
+use mathlib.Core.Bool.{true, cond}
 use mathlib.Core.List.{List, [], ◌∷◌, ◌++◌, append-nil}
 use Prim.Native.Nat.{ℕ, ◌≤◌}
 use borrow.Author.Tests.{leb-true}
@@ -13,7 +13,7 @@ use Rattle.answer.specs.Output.{room}
 use Rattle.answer.specs.declared.LineNo.{LineNo}
 use Rattle.answer.specs.declared.Refusal.{Refusal}
 use Rattle.answer.specs.Rules.{Answer}
-use Rattle.answer.proofs.laws.Order.{accepted_kept, kept_behind, first_append, first_on_line, gone_on, one_then}
+use Rattle.answer.proofs.laws.Order.{accepted_kept, kept_behind, first_append, first_on_line, gone_on}
 use Rattle.layout.specs.Records.{is_one_of}
 use Rattle.layout.specs.declared.Record.{Record}
 use Rattle.fields.specs.declared.Fields.{Fields}
@@ -63,10 +63,9 @@ behind_records m xs last ok t l n e = l ∙ rw (n, ok, e) (sym (first_on_line (l
 
 -- ---- the turn
 
-pub turn_is : (s : Checker) (may : Bool) {limits : Answer} (ls : List Rule) → limits ≡ first_broken ls
-    → turn_of s may limits ≡ first_broken (turn_rule (held s) ∷ rules_on_line (line_of s) (turn_rule may ∷ ls))
+pub turn_is : (s : Checker) {asked : Answer} (rs : List Rule) → asked ≡ first_broken rs → turn_of s asked ≡ first_broken (turn_rule (held s) ∷ rules_on_line (line_of s) rs)
 unfolding first_broken
-turn_is s may {limits} ls e = ap (λ (a : Answer). cond (held s) a (refused_as 51 0)) (ap (on_line (line_of s)) (one_then (turn_rule may) ls limits e) ∙ sym (first_on_line (line_of s) (turn_rule may ∷ ls)))
+turn_is s rs e = ap (λ (a : Answer). cond (held s) a (refused_as 51 0)) (ap (on_line (line_of s)) e ∙ sym (first_on_line (line_of s) rs))
 
 -- a call in turn has a state that is held, within the limits
 pub turned : {turn : Answer} (c : Call) (s : Checker) → turn ≡ first_broken (turn_rules c s) → turn ≡ Ok tt → (held s ≡ true) × AllKept (turn_limits c s)

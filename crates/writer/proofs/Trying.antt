@@ -47,7 +47,6 @@ use Rattle.writer.proofs.laws.TakesLine.{steps_by_house, takes}
 use Rattle.writer.specs.inner.Steps.{kind_answer, MayTry, Tries, line_with, lines_with, AllRight, none_made, one_more, nth_in, expected_at, TriesPayment, MayPay}
 use Rattle.writer.specs.declared.given.Payment.{Payment}
 use Rattle.writer.specs.declared.records.Tried.{Tried}
-use Rattle.writer.specs.declared.payments.TriedPayment.{TriedPayment}
 
 -- ---- one record
 
@@ -73,7 +72,7 @@ refused_on_line line (Ok tt) e = never_refused e
 refused_on_line line (Err x) e = (x, refl)
 
 -- a record that is refused makes nothing
-tries_not : (expected : Bool) (s : Checker) (g : Fields) {y : Refusal} {r : Result Tried Refusal} → IsErr r × IsErrAnd r (λ z. z ≡ y)
+tries_not : (expected : Bool) (s : Checker) (g : Fields) {y : Refusal} {r : Result (Tried Made) Refusal} → IsErr r × IsErrAnd r (λ z. z ≡ y)
     → Err y ≡ first_broken (given_on_line expected s g) → Tries expected s g r
 tries_not expected s g {y} out e = subst (Tries expected s g) (sym (left_with out)) (record { answered = e; makes = tt })
 
@@ -106,7 +105,7 @@ module _ (expected : Bool) (s : Checker) (g : Fields) (whole : Whole g) {m : Mad
   all_rules = first_on_line (line_of s) (rules ++ house)
 
   -- what the record's own check answers, on its line, is that of all rules where it refuses
-  pub tried_refused : {lined : Answer} {line : LineNo} {y : Refusal} {r : Result Tried Refusal} → sound s ≡ true → line ≡ cond (sound s) (line_of s) no_line
+  pub tried_refused : {lined : Answer} {line : LineNo} {y : Refusal} {r : Result (Tried Made) Refusal} → sound s ≡ true → line ≡ cond (sound s) (line_of s) no_line
       → lined ≡ on_line line right → lined ≡ Err y → IsErr r × IsErrAnd r (λ z. z ≡ y) → Tries expected s g r
   tried_refused {lined} {line} {y} ok n l was out =
       let (x, f) = refused_on_line line right (sym l ∙ was) in
@@ -141,7 +140,7 @@ module _ (expected : Bool) (s : Checker) (g : Fields) (whole : Whole g) {m : Mad
       by-all : x.answer ≡ first_broken (given_on_line expected s g)
       by-all = by-house ∙ rw (gone_on rules house (sym right_is ∙ a)) (sym all_rules)
 
-      pub step_refused : {y : Refusal} {r : Result Tried Refusal} → x.answer ≡ Err y → IsErr r × IsErrAnd r (λ z. z ≡ y) → Tries expected s g r
+      pub step_refused : {y : Refusal} {r : Result (Tried Made) Refusal} → x.answer ≡ Err y → IsErr r × IsErrAnd r (λ z. z ≡ y) → Tries expected s g r
       step_refused was out = tries_not expected s g out (sym was ∙ by-all)
 
       pub step_accepted : x.answer ≡ Ok tt → Tries expected s g (Ok (record { checker = x.state; made = m }))
@@ -176,7 +175,7 @@ module _ (s : Checker) (g : Fields) (gs : List Fields) (expected : List (List Re
   abbrev is_now : Bool
   is_now = is_one_of g.which (expected_now expected)
 
-  goes_on : {t : Tried} → Tries is_now s g (Ok t) → first_broken (all_given (drop 1 expected) t.checker gs) ≡ first_broken (all_given expected s (g ∷ gs))
+  goes_on : {t : Tried Made} → Tries is_now s g (Ok t) → first_broken (all_given (drop 1 expected) t.checker gs) ≡ first_broken (all_given expected s (g ∷ gs))
   unfolding all_given
   goes_on h = rw h.makes.moved (gone_on (given_on_line is_now s g) _ (sym h.answered))
 
@@ -185,7 +184,7 @@ module _ (s : Checker) (g : Fields) (gs : List Fields) (expected : List (List Re
   stops {r} h = stopped (given_on_line is_now s g) _ r (sym h.answered)
 
 -- an accepted record is the one that is expected
-was_expected : (expected : Bool) (s : Checker) (g : Fields) {t : Tried} → Tries expected s g (Ok t) → expected ≡ true
+was_expected : (expected : Bool) (s : Checker) (g : Fields) {t : Tried Made} → Tries expected s g (Ok t) → expected ≡ true
 unfolding AllKept given_rules
 was_expected expected s g h = (off_line (line_of s) (given_rules expected g.which s.dir (bytes_of s g)) (accepted_kept _ (sym h.answered))).1.0
 
@@ -222,12 +221,12 @@ module _ {s t : Checker} {p : Payment} {made : List Made} {k : ℕ} (h : Going s
     abbrev is_here : Bool
     is_here = expected_at k s.dir s.batch g.which
 
-    pub going_stopped : {e : Refusal} {r : Result TriedPayment Refusal} → Tries is_here t g (Err e) → IsErr r × IsErrAnd r (λ z. z ≡ e) → TriesPayment s p r
+    pub going_stopped : {e : Refusal} {r : Result (Tried (List Made)) Refusal} → Tries is_here t g (Err e) → IsErr r × IsErrAnd r (λ z. z ≡ e) → TriesPayment s p r
     going_stopped y out =
         let there = ap (λ (gs : List Fields). first_broken (all_given (drop k (expected_in_payment s)) t gs)) (sym here_on) in
         subst (TriesPayment s p) (sym (left_with out)) (record { answered = stops t g later (drop k (expected_in_payment s)) y ∙ there ∙ h.answers; makes = tt })
 
-    pub going_on : {x : Tried} → Tries is_here t g (Ok x) → Going s p (set made k x.made) x.checker (k + 1)
+    pub going_on : {x : Tried Made} → Tries is_here t g (Ok x) → Going s p (set made k x.made) x.checker (k + 1)
     unfolding behind_all lines_for
     going_on {x} y =
         let m = x.made in

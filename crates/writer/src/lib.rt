@@ -21,7 +21,7 @@ pub use given::Payment;
 use layout::Record;
 use payments::{check_sum, put_payment, try_payment};
 use records::{put_line, try_record};
-use turns::{batch_limits, check_turn, payment_limits, turns_at};
+use turns::{batch_limits, check_turn, payment_limits, test_turn, turns_at};
 
 // The checker's state behind what was written, and the place that was reached in the output.
 #[derive(Clone, Copy)]
@@ -93,18 +93,13 @@ impl Writer {
         }
     }
 
-    // A call that writes one record, a header or a trailer: its turn, the record, then room.
-    fn write_one(
-        self,
-        may: bool,
-        limits: Answer,
-        v: Fields,
-        out: &mut [u8],
-    ) -> Result<Writer, Refusal>
-        requires { turn_of self.checker may limits ≡ Ok tt → MayTry true v.which self.checker }
-        ensures { WroteIn (turn_of self.checker may limits) (one_rules self v out.old) self (v ∷ []) out.old out.new (handed_back self result) }
+    // A call that writes one record, a header or a trailer: its turn and limits, which are asked, the
+    // record, then room.
+    fn write_one(self, asked: Answer, v: Fields, out: &mut [u8]) -> Result<Writer, Refusal>
+        requires { turn_of self.checker asked ≡ Ok tt → MayTry true v.which self.checker }
+        ensures { WroteIn (turn_of self.checker asked) (one_rules self v out.old) self (v ∷ []) out.old out.new (handed_back self result) }
     {
-        check_turn(self.checker, may, limits)?;
+        check_turn(self.checker, asked)?;
         let tried = try_record(self.checker, true, v)?;
         answer::on_line(self.room(LINE_BYTES, out), self.checker.next_line())?;
         put_line(tried.made, &mut out[self.cursor..]);
@@ -118,32 +113,27 @@ impl Writer {
     pub fn open_file(self, v: Fields, out: &mut [u8]) -> Written
         ensures { Wrote self (open_file v) out.old out.new result }
     {
-        let may = turns_at(self.checker.phase()).header;
-        self.hand_back(self.write_one(may, Ok(()), v.taken_as(Record::FileHeader), out))
+        let asked = test_turn(turns_at(self.checker.phase()).header);
+        self.hand_back(self.write_one(asked, v.taken_as(Record::FileHeader), out))
     }
 
     // A batch header, whose service and form give the batch its kind.
     pub fn open_batch(self, v: Fields, out: &mut [u8]) -> Written
         ensures { Wrote self (open_batch v) out.old out.new result }
     {
-        let may = turns_at(self.checker.phase()).batch;
         let given = v.taken_as(Record::BatchHeader);
-        let limits = batch_limits(self.checker, given);
-        self.hand_back(self.write_one(may, limits, given, out))
+        let turn = test_turn(turns_at(self.checker.phase()).batch);
+        let asked = turn.and(batch_limits(self.checker, given));
+        self.hand_back(self.write_one(asked, given, out))
     }
 
-    // A payment: its turn, its records, then the sum of all payments so far, then room.
-    fn write_payment(
-        self,
-        may: bool,
-        limits: Answer,
-        p: Payment,
-        out: &mut [u8],
-    ) -> Result<Writer, Refusal>
-        requires { turn_of self.checker may limits ≡ Ok tt → MayPay self.checker }
-        ensures { WroteIn (turn_of self.checker may limits) (payment_rules self p out.old) self (records_in p) out.old out.new (handed_back self result) }
+    // A payment: its turn and limits, which are asked, its records, then the sum of all payments so far,
+    // then room.
+    fn write_payment(self, asked: Answer, p: Payment, out: &mut [u8]) -> Result<Writer, Refusal>
+        requires { turn_of self.checker asked ≡ Ok tt → MayPay self.checker }
+        ensures { WroteIn (turn_of self.checker asked) (payment_rules self p out.old) self (records_in p) out.old out.new (handed_back self result) }
     {
-        check_turn(self.checker, may, limits)?;
+        check_turn(self.checker, asked)?;
         let tried = try_payment(self.checker, p)?;
         let count = p.records();
         let bytes = LINE_BYTES * count;
@@ -156,28 +146,29 @@ impl Writer {
         })
     }
 
-    // Two records, or in a return perhaps three.
+    // A payment's records: one, which is an O, or two; and in a return perhaps a Z behind them.
     pub fn payment(self, p: Payment, out: &mut [u8]) -> Written
         ensures { Wrote self (pay p) out.old out.new result }
     {
-        let may = turns_at(self.checker.phase()).payment;
-        let limits = payment_limits(self.checker, RecordCount(p.records() as u64));
-        self.hand_back(self.write_payment(may, limits, p, out))
+        let details = RecordCount(p.records() as u64);
+        let turn = test_turn(turns_at(self.checker.phase()).payment);
+        let asked = turn.and(payment_limits(self.checker, details));
+        self.hand_back(self.write_payment(asked, p, out))
     }
 
     // The batch trailer: the writer counts and sums, the caller gives the other fields.
     pub fn close_batch(self, v: Fields, out: &mut [u8]) -> Written
         ensures { Wrote self (close_batch v) out.old out.new result }
     {
-        let may = turns_at(self.checker.phase()).trailer;
-        self.hand_back(self.write_one(may, Ok(()), v.taken_as(Record::BatchTrailer), out))
+        let asked = test_turn(turns_at(self.checker.phase()).trailer);
+        self.hand_back(self.write_one(asked, v.taken_as(Record::BatchTrailer), out))
     }
 
     // The file trailer. Behind it every call is out of turn.
     pub fn close_file(self, v: Fields, out: &mut [u8]) -> Written
         ensures { Wrote self (close_file v) out.old out.new result }
     {
-        let may = turns_at(self.checker.phase()).end;
-        self.hand_back(self.write_one(may, Ok(()), v.taken_as(Record::FileTrailer), out))
+        let asked = test_turn(turns_at(self.checker.phase()).end);
+        self.hand_back(self.write_one(asked, v.taken_as(Record::FileTrailer), out))
     }
 }

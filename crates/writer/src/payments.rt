@@ -10,20 +10,16 @@ ghost use Rattle.writer.specs.Refusals.{z_in, sum_rule, size};
 ghost use Rattle.writer.specs.inner.Steps.{lines_with, expected_at, AllRight, TriesPayment, MayPay};
 
 use super::given::{MOST_RECORDS, Payment};
-use super::records::{put_line, try_record};
+use super::records::{Tried, put_line, try_record};
 use answer::{Answer, Cents, Refusal, numbers};
 use checker::{Checker, LINE_BYTES};
 use fields::{Fields, Made};
 use layout::names::Name;
 use layout::{Amount, Batch, Direction, Record, names};
 
-// The state behind all records of a payment, and the records, which are made. Behind the last nothing
-// is.
-#[derive(Clone, Copy)]
-pub(crate) struct TriedPayment {
-    pub(crate) checker: Checker,
-    pub(crate) made: [Made; MOST_RECORDS],
-}
+// The records of a payment, which are made; behind the last nothing is. Memory is fixed, and so there
+// is room for the most.
+type MadeRecords = [Made; MOST_RECORDS];
 
 // Whether a record is a Z, and may be one.
 fn is_z(which: Record, dir: Direction) -> bool
@@ -66,7 +62,7 @@ fn amount_of(v: Fields) -> Cents
 }
 
 // All records of a payment, up to the first that is refused. Nothing is written yet.
-pub(crate) fn try_payment(m: Checker, p: Payment) -> Result<TriedPayment, Refusal>
+pub(crate) fn try_payment(m: Checker, p: Payment) -> Result<Tried<MadeRecords>, Refusal>
     requires { MayPay m }
     ensures { TriesPayment m p result }
 {
@@ -81,7 +77,7 @@ pub(crate) fn try_payment(m: Checker, p: Payment) -> Result<TriedPayment, Refusa
         made[position] = tried.made;
         checker = tried.checker;
     }
-    Ok(TriedPayment { checker, made })
+    Ok(Tried { checker, made })
 }
 
 // The lines of records, each over its part of this part of the output.

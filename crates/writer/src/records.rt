@@ -8,11 +8,11 @@ use checker::{Checker, LINE_BYTES};
 use fields::{Fields, Made};
 use layout::{RECORD_BYTES, places};
 
-// The state behind a record that is accepted, and the record, which is made.
+// The state behind what is accepted, a record or a payment's records, and what is made of it.
 #[derive(Clone, Copy)]
-pub(crate) struct Tried {
+pub(crate) struct Tried<M> {
     pub(crate) checker: Checker,
-    pub(crate) made: Made,
+    pub(crate) made: M,
 }
 
 // The reader's 4, 11 and fields: of a record that is expected they are the check's, of another 4 and 11.
@@ -40,7 +40,7 @@ fn line_of(made: Made) -> [u8; LINE_BYTES]
 
 // A record in a state: nothing is written yet. The checker reads the line as any other: there is no
 // other way to the state behind it. What it refuses then is what the house asks.
-pub(crate) fn try_record(m: Checker, expected: bool, v: Fields) -> Result<Tried, Refusal>
+pub(crate) fn try_record(m: Checker, expected: bool, v: Fields) -> Result<Tried<Made>, Refusal>
     requires { MayTry expected v.which m }
     ensures { Tries expected m v result }
 {

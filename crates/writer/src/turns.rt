@@ -1,10 +1,11 @@
 // Which call is in turn, and what the file has room for: 51, 20 and 25.
-ghost use Rattle.std.specs.Prelude.{◌≡◌, ◌≤◌};
+ghost use Rattle.std.specs.Prelude.{◌≡◌, ◌≤◌, ◌∷◌, []};
 ghost use Rattle.answer.specs.Rules.{first_broken};
 ghost use Rattle.checker.specs.Machine.{most_details};
-ghost use Rattle.writer.specs.Refusals.{turns, records_so_far, kind_given, least_details, fits_file, batch_limits, payment_limits, held};
+ghost use Rattle.writer.specs.Refusals.{turn_rule, turns, records_so_far, kind_given, least_details, fits_file, batch_limits, payment_limits, held};
 ghost use Rattle.writer.specs.inner.Steps.{turn_of};
 
+use super::given::MOST_RECORDS;
 use answer::{Answer, RecordCount, numbers};
 use checker::{Checker, MOST_BATCHES, MOST_PAYMENTS};
 use fields::Fields;
@@ -18,9 +19,6 @@ const LEAST_DETAILS: RecordCount = RecordCount(2);
 
 // The trailers of the batch and of the file.
 const TRAILERS: RecordCount = RecordCount(2);
-
-// A payment's records are at most so many, and so a batch's are bounded by its payments.
-const MOST_DETAILS: u64 = 3;
 
 // The calls that are in turn: what opens the file, a batch; a payment; what closes the batch, the file.
 #[derive(Clone, Copy)]
@@ -53,7 +51,8 @@ fn is_held(m: Checker) -> bool
     }
     let closed = m.closed();
     let current = m.current();
-    let few = current.records().0 <= 1 + MOST_DETAILS * current.payments();
+    // A payment's records are bounded, and so a batch's are by its payments.
+    let few = current.records().0 <= 1 + MOST_RECORDS as u64 * current.payments();
     few & closed.cents().fit_a_file(current.cents())
 }
 
@@ -78,11 +77,9 @@ fn kind_given(dir: Direction, v: Fields) -> Option<Batch>
 fn least_details(batch: Option<Batch>) -> RecordCount
     ensures { (result.0 ≡ least_details batch) × (result.0 ≤ most_details) }
 {
-    let records = checker::records_of(batch);
-    if records == 0 {
-        LEAST_DETAILS
-    } else {
-        RecordCount(records as u64)
+    match batch {
+        None => LEAST_DETAILS,
+        Some(_) => RecordCount(u64::from(checker::records_of(batch))),
     }
 }
 
@@ -106,13 +103,19 @@ pub(crate) fn payment_limits(m: Checker, details: RecordCount) -> Answer
     answer::test(numbers::TOO_LONG, 0, fits_file(m, details.plus(TRAILERS)))
 }
 
-// The answer before any record is looked at.
-pub(crate) fn check_turn(m: Checker, may: bool, limits: Answer) -> Answer
-    ensures { result ≡ turn_of m may limits }
+// A call's answer by its turn alone.
+pub(crate) fn test_turn(may: bool) -> Answer
+    ensures { result ≡ first_broken (turn_rule may ∷ []) }
+{
+    answer::test(numbers::OUT_OF_TURN, 0, may)
+}
+
+// The answer before any record is looked at: what is asked of the call, on the line that is next.
+pub(crate) fn check_turn(m: Checker, asked: Answer) -> Answer
+    ensures { result ≡ turn_of m asked }
 {
     if !is_held(m) {
         return answer::refused(numbers::OUT_OF_TURN, 0);
     }
-    let asked = answer::test(numbers::OUT_OF_TURN, 0, may).and(limits);
     answer::on_line(asked, m.next_line())
 }

@@ -22,19 +22,18 @@ use Rattle.checker.specs.inner.Following.{Limit}
 use Rattle.checker.specs.declared.Checker.{Checker}
 use Rattle.writer.specs.Given.{records_in}
 use Rattle.filling.specs.Filling.{filled}
-use Rattle.writer.specs.Refusals.{turn_rule, turns, sum_rule, positions, expected_in_payment, expected_now, given_on_line, next_by, all_given, held}
+use Rattle.writer.specs.Refusals.{turns, sum_rule, positions, expected_in_payment, expected_now, given_on_line, next_by, all_given, held}
 use Rattle.writer.specs.Outcome.{lines_for, behind_all, cursor_behind, state_after, output_after}
 use Rattle.writer.specs.declared.given.Payment.{Payment}
 use Rattle.writer.specs.declared.given.Payment.TheVariants.{One, Two, Three}
 use Rattle.writer.specs.declared.records.Tried.{Tried}
-use Rattle.writer.specs.declared.payments.TriedPayment.{TriedPayment}
 use Rattle.writer.specs.declared.Writer.{Writer}
 use Rattle.writer.specs.declared.Written.{Written}
 use Rattle.checker.specs.Totals.{payment_count}
 
--- 51, and then the limits, on the line that is next
-abbrev pub turn_of : Checker → Bool → Answer → Answer
-turn_of s may limits = cond (held s) (on_line (line_of s) (and_then (first_broken (turn_rule may ∷ [])) limits)) (refused_as 51 0)
+-- what is asked of a call, its turn and its limits, on the line that is next; of a state that is not held 51
+abbrev pub turn_of : Checker → Answer → Answer
+turn_of s asked = cond (held s) (on_line (line_of s) asked) (refused_as 51 0)
 
 -- 4, 11 and the fields: of a record that is expected as it is made; of another 4 and 11
 abbrev pub kind_answer : Bool → Made → Fields → Record → Answer
@@ -47,13 +46,13 @@ pub record MayTry (expected : Bool) (r : Record) (s : Checker) : Type 0 where
   pub limit : expected ≡ true → Limit r s
 
 -- a record that was accepted: the state behind it; the record from its fields with what the writer fills, which is right
-pub record Makes (s : Checker) (g : Fields) (t : Tried) : Type 0 where
+pub record Makes (s : Checker) (g : Fields) (t : Tried Made) : Type 0 where
   pub moved : t.checker ≡ next_by s g
   pub right : t.made.answer ≡ Ok tt
   pub made : t.made ≡ made_of g.which s.dir (filled g.which s g)
 
 -- a record that was tried: its answer, and what is behind it
-pub record Tries (expected : Bool) (s : Checker) (g : Fields) (r : Result Tried Refusal) : Type 0 where
+pub record Tries (expected : Bool) (s : Checker) (g : Fields) (r : Result (Tried Made) Refusal) : Type 0 where
   pub answered : answer_alone r ≡ first_broken (given_on_line expected s g)
   pub makes : IfOk r (Makes s g)
 
@@ -86,14 +85,14 @@ abbrev pub expected_at : ℕ → Direction → Option Batch → Record → Bool
 expected_at k d b r = is_one_of r (expected_now (drop k (positions d (payment b))))
 
 -- a payment's records that were accepted: what is behind them all
-pub record MakesPayment (s : Checker) (p : Payment) (t : TriedPayment) : Type 0 where
+pub record MakesPayment (s : Checker) (p : Payment) (t : Tried (List Made)) : Type 0 where
   pub moved : t.checker ≡ behind_all s (records_in p)
   pub right : AllRight (take (length (records_in p)) t.made)
   pub made : lines_with (take (length (records_in p)) t.made) ≡ lines_for s (records_in p)
   pub places : length t.made ≡ most_details
 
 -- a payment's records that were tried: their answer, and what is behind them
-pub record TriesPayment (s : Checker) (p : Payment) (r : Result TriedPayment Refusal) : Type 0 where
+pub record TriesPayment (s : Checker) (p : Payment) (r : Result (Tried (List Made)) Refusal) : Type 0 where
   pub answered : answer_alone r ≡ first_broken (all_given (expected_in_payment s) s (records_in p))
   pub makes : IfOk r (MakesPayment s p)
 

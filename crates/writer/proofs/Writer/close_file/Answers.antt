@@ -1,5 +1,4 @@
 -- `writer::Writer::close_file` meets its contract. Assumes nothing.
-use Rattle.answer.proofs.laws.Order.{done}
 use Rattle.layout.specs.declared.Record.TheVariants.{FileTrailer}
 use Rattle.writer.proofs.Answering.{turn_is, turned, whole_call, one_expected}
 use Rattle.fields.specs.Values.{taken_as}
@@ -13,12 +12,12 @@ pub write_one-requires : goal.write_one-requires
 write_one-requires c =
     λ t.
     let a = c.args in
-    let k = turned (close_file a.v) a.self.checker (rw (c.turns_at-may.ensures, c.phase.ensures) (turn_is a.self.checker _ _ done)) t in
+    let k = turned (close_file a.v) a.self.checker (turn_is a.self.checker _ (rw (c.turns_at.ensures, c.phase.ensures) at c.test_turn-asked.ensures)) t in
     rw c.taken_as.ensures (end_may a.self.checker k.0 a.v k.1)
 
 pub returns : goal.returns
 returns c =
     let a = c.args in
     rw c.hand_back.ensures
-    (whole_call (close_file a.v) (rw (c.turns_at-may.ensures, c.phase.ensures) (turn_is a.self.checker _ _ done))
+    (whole_call (close_file a.v) (turn_is a.self.checker _ (rw (c.turns_at.ensures, c.phase.ensures) at c.test_turn-asked.ensures))
     (one_expected (taken_as FileTrailer a.v) ((FileTrailer ∷ []) ∷ []) _ refl (rw c.taken_as.ensures at c.write_one.ensures)))

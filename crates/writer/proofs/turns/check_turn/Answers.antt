@@ -7,4 +7,4 @@ use Rattle.writer.proofs.turns.check_turn.Goals as goal
 pub returns : goal.returns
 returns c =
     let e = sym c.is_held.ensures ∙ not-false _ c.if-not-is_held.false-raw in
-    rw (e, c.on_line.ensures, c.next_line.ensures, held_sound _ e, c.and-asked.ensures, c.test.ensures)
+    rw (e, c.on_line.ensures, c.next_line.ensures, held_sound _ e)
