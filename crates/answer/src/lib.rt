@@ -30,7 +30,8 @@ pub struct Refusal {
 // An acceptance, or one refusal.
 pub type Answer = Result<(), Refusal>;
 
-// Digit strings and one record alone have no line.
+// Digit strings and one record alone have no line: 0 and no option, as the paper's table and every
+// line that is printed have it.
 pub const NO_LINE: LineNo = LineNo(0);
 
 pub const FILE_CENTS: Cents = Cents(1000000000000000000);

@@ -12,7 +12,7 @@ ghost use Rattle.layout.specs.Table.{record_bytes};
 ghost use Rattle.layout.specs.Record.{record_rules, some_rules};
 ghost use Rattle.walk.specs.Parts.{in_parts};
 
-use answer::{Answer, NO_LINE, Refusal, numbers};
+use answer::{Answer, Refusal, numbers};
 pub use bytes::check_bytes;
 use layout::{Direction, FIELDS, RECORD_BYTES, Record};
 use walk::Checked;
@@ -30,11 +30,8 @@ fn whole(rec: &[u8]) -> Result<&[u8; RECORD_BYTES], Refusal>
     ensures answer { answer_alone result ≡ first_broken (rule 1 0 (eqb (length rec.now) record_bytes) ∷ []) }
     ensures bytes { IfOk result (λ whole. whole.now ≡ rec.now) }
 {
-    rec.as_array::<RECORD_BYTES>().ok_or(Refusal {
-        number: numbers::WRONG_LENGTH,
-        line: NO_LINE,
-        place: 0,
-    })
+    rec.as_array::<RECORD_BYTES>()
+        .ok_or(Refusal::at(numbers::WRONG_LENGTH, 0))
 }
 
 // One record alone: its length, its bytes, its type and segment, then all its fields.

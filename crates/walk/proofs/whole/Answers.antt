@@ -13,4 +13,4 @@ handed n None other long = here _ _ _ _ (ne_eqb _ _ other)
 handed n (Some x) at long = past _ _ _ _ _ (eq-eqb _ _ (long x at)) done
 
 pub returns-clause-answer : goal.returns-clause-answer
-returns-clause-answer c = rw c.ok_or.ensures.value (handed _ _ c.as_array.ensures.cases (λ x at. at.long))
+returns-clause-answer c = rw (c.ok_or.ensures.value, c.at.ensures) (handed _ _ c.as_array.ensures.cases (λ x at. at.long))
