@@ -29,6 +29,7 @@ pub fn check_bytes(rec: &[u8]) -> Answer
     if is_clean(rec) {
         return Ok(());
     }
+    // Left by a label at the first wrong byte, as the fields are.
     'bytes: {
         for (i, b) in rec.iter().enumerate() {
             if !is_printable(*b) {

@@ -20,7 +20,7 @@ const SEGMENT_FIELD: usize = 4;
 
 // The rules of the fields from `first` up to `past`. Where the record lies between its masks, a field
 // whose rule asks no more than they tell is right, and is not looked at.
-// Of `Checked` it would have to ask, besides, that `first` and `past` lie in the record's own fields.
+// No method of `Checked`: then `first` and `past` would have to lie in that record's own fields.
 fn walk(rec: &[u8; RECORD_BYTES], first: usize, past: usize, dir: Direction, masked: bool) -> Answer
     requires in_order { first ≤ past }
     requires in_table { past ≤ field_count }
