@@ -1,8 +1,8 @@
 // Check digits, from the right.
-ghost use Rattle.std.specs.Prelude.{◌≡◌, ◌+◌, ◌%◌, ◌^◌, ◌<◌, ◌≤◌, ◌++◌, length};
+ghost use Rattle.std.specs.Prelude.{◌≡◌, ◌+◌, ◌-◌, ◌%◌, ◌^◌, ◌<◌, ◌≤◌, ◌++◌, cond, nat_lt, length};
 ghost use Rattle.digits.specs.Digits.{digit_byte};
 ghost use Rattle.digits.specs.inner.Steps.{few, most_value, weighed_before};
-ghost use Rattle.digits.specs.Checks.{base, value_of, counts, plain_lift, lift, check_digit, sealed, ends_right, ends_right_twice};
+ghost use Rattle.digits.specs.Checks.{base, value_of, counts, lift, check_digit, sealed, ends_right, ends_right_twice};
 
 use super::{character_of, digit_of};
 
@@ -21,12 +21,12 @@ pub enum Modulus {
 // So many bytes at most are a short string: what they count, at most 462 each, fits 16 bits.
 const FEW: usize = 140;
 
-// What a remainder above 1 lacks of 11, and 0 for 0 and 1, as a byte.
-fn eleven_less(r: u64) -> u8
+// What a remainder above 1 lacks of 11, as a byte, and `low` for 0 and 1.
+fn eleven_less(r: u64, low: u8) -> u8
     requires { r < 11 }
-    ensures { result ≡ digit_byte (plain_lift r) }
+    ensures { result ≡ cond (nat_lt r 2) low (digit_byte (11 - r)) }
 {
-    if r < 2 { b'0' } else { b'0' + (11 - r) as u8 }
+    if r < 2 { low } else { b'0' + (11 - r) as u8 }
 }
 
 impl Modulus {
@@ -113,8 +113,8 @@ impl Modulus {
     {
         match self {
             Modulus::Ten => b'0' + ((10 - r) % 10) as u8,
-            Modulus::Eleven => { if r < 2 { b'1' } else { b'0' + (11 - r) as u8 } }
-            Modulus::PlainEleven | Modulus::LongEleven => eleven_less(r),
+            Modulus::Eleven => eleven_less(r, b'1'),
+            Modulus::PlainEleven | Modulus::LongEleven => eleven_less(r, b'0'),
         }
     }
 }
