@@ -7,7 +7,7 @@ pub mod numbers;
 ghost use Rattle.std.specs.Prelude.{◌≡◌, ◌∷◌, [], ◌+◌, leb, ltb};
 ghost use Rattle.answer.specs.Limits.{file_cents, most_records};
 ghost use Rattle.answer.specs.Output.{room};
-ghost use Rattle.answer.specs.Rules.{rule, refused_as, first_broken, on_line};
+ghost use Rattle.answer.specs.Rules.{refusal, no_line, rule, refused_as, first_broken, on_line};
 ghost use Rattle.answer.specs.Sums.{capped};
 
 #[derive(Clone, Copy, PartialEq, Eq, PartialOrd, Ord)]
@@ -99,15 +99,24 @@ impl LineNo {
     }
 }
 
-// A refusal on no line.
+impl Refusal {
+    // On no line.
+    pub fn at(number: u8, place: usize) -> Refusal
+        ensures { result ≡ refusal number no_line place }
+    {
+        Refusal {
+            number,
+            line: NO_LINE,
+            place,
+        }
+    }
+}
+
+// The answer that refuses, on no line.
 pub fn refused(number: u8, place: usize) -> Answer
     ensures { result ≡ refused_as number place }
 {
-    Err(Refusal {
-        number,
-        line: NO_LINE,
-        place,
-    })
+    Err(Refusal::at(number, place))
 }
 
 // The answer of one rule.

@@ -13,7 +13,7 @@ ghost use Rattle.boleto.specs.Parts.{string_rules};
 ghost use Rattle.boleto.specs.Strings.{barcode_digits, line_digits, digit_line_of, barcode_of};
 ghost use Rattle.boleto.specs.Rules.{currency_fits, general_fits, head_rules, barcode_rules, check_rules, digit_line_rules};
 
-use answer::{Answer, NO_LINE, Refusal, numbers};
+use answer::{Answer, Refusal, numbers};
 use digits::Modulus;
 use parts::{check_part, places};
 use writing::{write_barcode, write_line};
@@ -41,13 +41,9 @@ fn check_string<const N: usize>(s: &[u8]) -> Result<&[u8; N], Refusal>
     ensures answer { answer_alone result ≡ first_broken (string_rules N s.now) }
     ensures string { IfOk result (λ string. string.now ≡ s.now) }
 {
-    let Some(string) = s.as_array::<N>() else {
-        return Err(Refusal {
-            number: numbers::STRING_LENGTH,
-            line: NO_LINE,
-            place: 0,
-        });
-    };
+    let string = s
+        .as_array::<N>()
+        .ok_or(Refusal::at(numbers::STRING_LENGTH, 0))?;
     let leading = digits::leading(string);
     answer::test(numbers::STRING_DIGIT, leading + 1, leading == N)?;
     Ok(string)

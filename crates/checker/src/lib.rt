@@ -13,7 +13,7 @@ mod reads;
 mod totals;
 
 ghost use Rattle.std.specs.Prelude.{◌≡◌, cond};
-ghost use Rattle.answer.specs.Rules.{no_line, refusal, first_broken};
+ghost use Rattle.answer.specs.Rules.{no_line, first_broken};
 ghost use Rattle.checker.specs.Line.{record_in, rules_of_line};
 ghost use Rattle.checker.specs.Machine.{line_of, sound, step_of, start};
 ghost use Rattle.checker.specs.inner.Steps.{Bounded, behind_by};
@@ -44,17 +44,6 @@ pub struct Checker {
 pub struct Stepped {
     pub state: Checker,
     pub answer: Answer,
-}
-
-// A refusal on no line.
-fn refusal(number: u8, place: usize) -> Refusal
-    ensures { result ≡ refusal number no_line place }
-{
-    Refusal {
-        number,
-        line: NO_LINE,
-        place,
-    }
 }
 
 impl Checker {
@@ -89,7 +78,7 @@ impl Checker {
         let rec = self.check_front(line)?;
         let which = self
             .line_is(rec)
-            .ok_or(refusal(numbers::TYPE, places::TYPE))?;
+            .ok_or(Refusal::at(numbers::TYPE, places::TYPE))?;
         let reading = Reading::of(which, rec);
         self.check_as(reading)?;
         Ok(self.after(reading))

@@ -12,7 +12,7 @@ use super::limits::{HEADER_BATCH, MOST_BATCHES, MOST_PAYMENTS, TRAILER_BATCH};
 use super::reading::Reading;
 use super::reads::{check_cents, check_number, check_records};
 use super::totals::payments_by;
-use super::{Checker, LINE_BYTES, order, refusal};
+use super::{Checker, LINE_BYTES, order};
 use answer::{Answer, Refusal, numbers};
 use layout::{FIELDS, LineType, RECORD_BYTES, Record, names, places};
 
@@ -215,7 +215,7 @@ impl Checker {
         answer::test(numbers::BEHIND_END, 0, !order::is_ended(self.phase))?;
         let rec = match line.first_chunk::<RECORD_BYTES>() {
             Some(rec) if line.len() == LINE_BYTES => rec,
-            _ => return Err(refusal(numbers::WRONG_LENGTH, 0)),
+            _ => return Err(Refusal::at(numbers::WRONG_LENGTH, 0)),
         };
         walk::check_bytes(rec)?;
         answer::test(numbers::LINE_END, places::CR, line[places::CR - 1] == b'\r')?;

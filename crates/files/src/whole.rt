@@ -3,7 +3,7 @@ ghost use Rattle.std.specs.Prelude.{◌≡◌};
 ghost use Rattle.files.specs.File.{out_of_turn, end_of, finish, check_file};
 
 use super::lines;
-use answer::{NO_LINE, Refusal, numbers};
+use answer::{Refusal, numbers};
 use checker::{Checker, Totals};
 
 // What is in an accepted file, or the first refusal.
@@ -13,11 +13,7 @@ pub type Outcome = Result<Totals, Refusal>;
 pub(crate) fn out_of_turn() -> Refusal
     ensures { result ≡ out_of_turn }
 {
-    Refusal {
-        number: numbers::OUT_OF_TURN,
-        line: NO_LINE,
-        place: 0,
-    }
+    Refusal::at(numbers::OUT_OF_TURN, 0)
 }
 
 // The end, declared: it goes by the state alone.

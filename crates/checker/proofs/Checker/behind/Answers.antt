@@ -9,7 +9,7 @@ returns-in_err-rec c = front_refused _ _ _ c.check_front.ensures.answer c.in_err
 pub returns-in_err-which : goal.returns-in_err-which
 returns-in_err-which c =
     let none = c.in_err-which.ensures.ok_part in
-    type_refused _ _ c.check_front.ensures.answer c.in_ok-rec.was _ (rw c.in_ok-rec.ensures.record at (sym c.line_is.ensures ∙ none)) (let given = rw none at c.in_err-which.ensures.value in cc (given, c.refusal.ensures)) c.from_residual-in_err-which.ensures
+    type_refused _ _ c.check_front.ensures.answer c.in_ok-rec.was _ (rw c.in_ok-rec.ensures.record at (sym c.line_is.ensures ∙ none)) (let given = rw none at c.in_err-which.ensures.value in cc (given, c.at.ensures)) c.from_residual-in_err-which.ensures
 
 pub returns-in_err-check_as : goal.returns-in_err-check_as
 returns-in_err-check_as c =

@@ -15,7 +15,7 @@ returns-in_default-clause-answer c =
       | in_default-via-in-Some+else-line-eq-LINE_BYTES w ↦ w.if-line-eq-LINE_BYTES.false
       | in_default-via-in_default w ↦ let short = rw w.in_default.is at c.first_chunk.ensures.cases in omega arith
     ] in
-    goes_on _ _ (rw c.is_ended.ensures at c.test.ensures) c.in_ok-test.was (rw c.refusal.ensures (here _ _ _ _ (ne_eqb _ _ other)))
+    goes_on _ _ (rw c.is_ended.ensures at c.test.ensures) c.in_ok-test.was (rw c.at.ensures (here _ _ _ _ (ne_eqb _ _ other)))
 
 pub returns-in_err-check_bytes-clause-answer : goal.returns-in_err-check_bytes-clause-answer
 returns-in_err-check_bytes-clause-answer c =
