@@ -126,7 +126,7 @@ impl Incoming {
         ensures { result ≡ arrive self.machine (lines_of (bytes_in self.line ++ first.now)) }
     {
         let line = self.line.with(first);
-        arrive(self.machine, &line.bytes[0..line.count])
+        arrive(self.machine, line.bytes())
     }
 
     // A part, in an open state: first what goes to the line that waits, then the rest of it.
@@ -186,8 +186,7 @@ impl Incoming {
     fn conclude(self) -> Finished
         ensures { result ≡ concluded self.machine (finish self.machine (bytes_in self.line)) }
     {
-        let count = self.line.len();
-        let outcome = finish(self.machine, &self.line.bytes[0..count]);
+        let outcome = finish(self.machine, self.line.bytes());
         Finished {
             state: at_line_end(self.machine, Status::from(outcome)),
             outcome,

@@ -10,8 +10,8 @@ use checker::LINE_BYTES;
 // and no `Vec`: the desk's memory is fixed.
 #[derive(Clone, Copy)]
 pub(crate) struct Unfinished {
-    pub(crate) bytes: [u8; LINE_BYTES],
-    pub(crate) count: usize,
+    bytes: [u8; LINE_BYTES],
+    count: usize,
 }
 
 impl Unfinished {
@@ -31,6 +31,13 @@ impl Unfinished {
         ensures upper_bound { result ≤ line_bytes }
     {
         self.count.min(LINE_BYTES)
+    }
+
+    // The bytes that are there.
+    pub(crate) fn bytes(&self) -> &[u8]
+        ensures { result.now ≡ bytes_in self.now }
+    {
+        &self.bytes[..self.len()]
     }
 
     // How many bytes of a part go to this line: what it lacks, if it is begun.
