@@ -71,6 +71,13 @@ pub other_kind : (n : ℕ) → is_mark n ≡ false → kind_count ≤ n → kind
 other_kind n e h = rw e (get_or-eq_default kinds F {n = n} h)
 
 -- a type and a segment are a run of their byte
+pub mark_fill : (n : ℕ) → is_mark n ≡ true → fill_of n ≡ Fixed (Run n)
+mark_fill n e = rw e (go (ltb n first_letter))
+  where
+    go : (b : Bool) → fill_as (means (cond b (RecordType n) (Segment n))).held (Run n) ≡ Fixed (Run n)
+    go true = refl
+    go false = refl
+
 mark_filled : (n : ℕ) → is_mark n ≡ true → Filled (kind_of n) (fill_of n)
 mark_filled n e = rw e (go (ltb n first_letter))
   where

@@ -1,6 +1,9 @@
 -- The records of a payment, by what is expected at each position. Assumes nothing.
-use Rattle.std.specs.Prelude.{◌≡◌, refl, Bool, true, false, not, ◌||◌, List, [], ◌∷◌, ℕ, zero, suc, ◌≤◌, eqb, length, take, drop, Some, Option}
-use Rattle.std.proofs.Common.{sym, ap, arith}
+use Rattle.std.specs.Prelude.{◌≡◌, refl, Bool, true, false, not, ◌&&◌, ◌||◌, List, [], ◌∷◌, ℕ, zero, suc, ◌≤◌, ◌<◌, eqb, length, take, drop, None, Some, Option}
+use Rattle.std.proofs.Common.{sym, ap, arith, eq-eqb, ne_eqb, length-drop}
+use Rattle.std.proofs.Math.Bool.{and-false}
+use Rattle.std.proofs.Math.Decide.{dec_le}
+use Rattle.std.proofs.Math.Seq.{drop-nil}
 use Rattle.answer.proofs.laws.Order.{never}
 use Rattle.layout.specs.Records.{amounts_of, code, is_one_of}
 use Rattle.layout.specs.declared.Direction.{Direction}
@@ -81,6 +84,24 @@ last_position d [] some = absurd (omega arith)
 last_position d (x ∷ []) some = refl
 last_position d (x ∷ y ∷ rs) some = last_position d (y ∷ rs) (omega arith)
 
+no_position : (d : Direction) (rs : List Record) (n : ℕ) → length rs < n → expected_now (drop n (positions d rs)) ≡ []
+no_position d [] zero h = absurd (omega arith)
+no_position d [] (suc n) h = refl
+no_position d (x ∷ []) zero h = absurd (omega arith)
+no_position d (x ∷ []) (suc zero) h = absurd (omega arith)
+no_position d (x ∷ []) (suc (suc zero)) h = refl
+no_position d (x ∷ []) (suc (suc (suc n))) h = refl
+no_position d (x ∷ y ∷ rs) zero h = absurd (omega arith)
+no_position d (x ∷ y ∷ rs) (suc n) h = no_position d (y ∷ rs) n (omega arith)
+
+no_records : (d : Direction) (rs : List Record) (n : ℕ) → length rs ≡ 0 → expected_now (drop n (positions d rs)) ≡ []
+no_records d [] n e = rw (drop-nil n)
+no_records d (x ∷ rs) n e = absurd (omega arith)
+
+none_taken : (rs : List Record) → take 1 rs ≡ [] → length rs ≡ 0
+none_taken [] e = refl
+none_taken (x ∷ rs) e = absurd (let z : ◌≡◌ {A = ℕ} 1 0 = ap length e in omega arith)
+
 module _ (d : Direction) {b : Option Batch} {n : ℕ} where
   pub own_position : {r : Record} → Stands b n r → expected_now (drop n (positions d (payment b))) ≡ r ∷ []
   own_position g = one_position d (payment b) n g.is
@@ -95,6 +116,34 @@ own_reading d b n r q e = go (drop n (payment b)) refl e
     go : (rs : List Record) → drop n (payment b) ≡ rs → reading_of (take 1 rs) ≡ Some q → expected_at n d b r ≡ eqb (code r) (code q) || false
     go [] h e = never (ap found e)
     go (x ∷ rs) h e = let same : x ≡ q = cc in rw (own_position d {b = b} {n = n} (record { is = ap (take 1) h }), same)
+
+pub no_reading : (n : ℕ) (b : Option Batch) → reading_of (record_at n b) ≡ None → record_at n b ≡ []
+no_reading n b e = go (drop n (payment b)) e
+  where
+    go : (rs : List Record) → reading_of (take 1 rs) ≡ None → take 1 rs ≡ []
+    go [] e = refl
+    go (x ∷ rs) e = never (sym (ap found e))
+
+-- where none of the payment's stands, a Z is expected behind the last
+pub no_own : (d : Direction) (b : Option Batch) (n : ℕ) (r : Record) → record_at n b ≡ []
+    → expected_at n d b r ≡ (not (eqb n 0) && eqb n (length (payment b))) && is_one_of r (z_in d)
+no_own d b n r e = go (dec_le n (length rs)) (dec_le 1 n)
+  where
+    rs : List Record
+    rs = payment b
+
+    behind : length rs ≤ n
+    behind = omega (arith, length-drop n rs, none_taken (drop n rs) e)
+
+    same : n ≤ length rs → n ≡ length rs
+    same q = omega (arith, behind)
+
+    go : Dec (n ≤ length rs) → Dec (1 ≤ n) → is_one_of r (expected_now (drop n (positions d rs))) ≡ (not (eqb n 0) && eqb n (length rs)) && is_one_of r (z_in d)
+    go (yes q) (yes some) =
+        let is : expected_now (drop n (positions d rs)) ≡ z_in d = rw (same q) (last_position d rs (omega (arith, same q))) in
+        rw (is, ne_eqb n 0 (λ z. omega arith), eq-eqb n (length rs) (same q))
+    go (yes q) (no none) = rw (no_records d rs n (omega (arith, same q)), eq-eqb n 0 (omega arith))
+    go (no q) some = rw (no_position d rs n (omega (arith, behind)), ne_eqb n (length rs) (λ z. q (omega arith)), and-false)
 
 pub expected_last : (d : Direction) (b : Option Batch) → 1 ≤ length (payment b) → d ≡ Return → expected_at (length (payment b)) d b SegmentZ ≡ true
 expected_last d b some e = rw (last_position d (payment b) some) (expected_z e)

@@ -1,6 +1,6 @@
 -- The kind of batch that is given is the one that the written batch header names. Assumes nothing.
 use Rattle.std.specs.Prelude.{◌≡◌, refl, List, ◌≤◌, length, Option}
-use Rattle.std.proofs.Common.{sym, lt-ltb, lit≤}
+use Rattle.std.proofs.Common.{sym, arith, lt-ltb, le-ltb, lit≤}
 use Rattle.layout.specs.Pairs.{batch_of}
 use Rattle.layout.specs.Field.{part}
 use Rattle.layout.specs.Table.{fields_of, service_field, form_field}
@@ -34,6 +34,9 @@ kind_is {s = s} v t =
     let g = of_record BatchHeader v in
     sym (batch_is s.dir (part service_field (bytes_of s g)) (part form_field (bytes_of s g)) (sym (read_given v t.well service_given)) (sym (read_given v t.well form_given)))
 
--- the least details of a kind that has a payment
+-- the least details of a kind that has a payment, and of the other
 pub least_named : (b : Option Batch) → 1 ≤ length (payment b) → length (payment b) ≡ least_details b
 least_named b h = rw (known_paid b, lt-ltb 0 (length (payment b)) h)
+
+pub least_unnamed : (b : Option Batch) → length (payment b) ≡ 0 → 2 ≡ least_details b
+least_unnamed b h = rw (known_paid b, le-ltb 0 (length (payment b)) (omega arith))
