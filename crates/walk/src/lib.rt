@@ -6,13 +6,12 @@ mod looks;
 mod masks;
 mod walk;
 
-ghost use Rattle.std.specs.Prelude.{◌≡◌, IfOk, ◌∷◌, [], eqb, length};
-ghost use Rattle.answer.specs.Rules.{rule, first_broken, answer_alone};
-ghost use Rattle.layout.specs.Table.{record_bytes};
+ghost use Rattle.std.specs.Prelude.{◌≡◌};
+ghost use Rattle.answer.specs.Rules.{first_broken};
 ghost use Rattle.layout.specs.Record.{record_rules, some_rules};
 ghost use Rattle.walk.specs.Parts.{in_parts};
 
-use answer::{Answer, Refusal, numbers};
+use answer::{Answer, numbers};
 pub use bytes::check_bytes;
 use layout::{Direction, FIELDS, RECORD_BYTES, Record};
 use walk::Checked;
@@ -25,20 +24,15 @@ pub struct Parts {
     pub rest: Answer,
 }
 
-// A record of the right length, or that it has another one.
-fn whole(rec: &[u8]) -> Result<&[u8; RECORD_BYTES], Refusal>
-    ensures answer { answer_alone result ≡ first_broken (rule 1 0 (eqb (length rec.now) record_bytes) ∷ []) }
-    ensures bytes { IfOk result (λ whole. whole.now ≡ rec.now) }
-{
-    rec.as_array::<RECORD_BYTES>()
-        .ok_or(Refusal::at(numbers::WRONG_LENGTH, 0))
-}
-
-// One record alone: its length, its bytes, its type and segment, then all its fields.
+// One record alone: its length, its bytes, its type and segment, then all its fields. The length is
+// asked here and in the two below, three lines each: a function that hands the array on, with its
+// refusal, was proved, and takes more lines than it saves.
 pub fn check_record(rec: &[u8], which: Record, dir: Direction) -> Answer
     ensures { result ≡ first_broken (record_rules which dir rec.now) }
 {
-    let rec = whole(rec)?;
+    let Some(rec) = rec.as_array::<RECORD_BYTES>() else {
+        return answer::refused(numbers::WRONG_LENGTH, 0);
+    };
     let checked = Checked::new(rec, which, dir);
     let clean = check_bytes(rec);
     let marks = checked.check_marks();
@@ -51,7 +45,9 @@ pub fn check_record(rec: &[u8], which: Record, dir: Direction) -> Answer
 pub fn check_fields(rec: &[u8], which: Record, dir: Direction, first: usize, past: usize) -> Answer
     ensures { result ≡ first_broken (some_rules which dir first past rec.now) }
 {
-    let rec = whole(rec)?;
+    let Some(rec) = rec.as_array::<RECORD_BYTES>() else {
+        return answer::refused(numbers::WRONG_LENGTH, 0);
+    };
     Checked::new(rec, which, dir).check_fields(first, past)
 }
 
@@ -68,15 +64,13 @@ pub fn check_parts(
 ) -> Parts
     ensures { result ≡ in_parts which dir first second third rec.now }
 {
-    let rec = match whole(rec) {
-        Ok(rec) => rec,
-        Err(refusal) => {
-            return Parts {
-                front: Err(refusal),
-                middle: Err(refusal),
-                rest: Err(refusal),
-            };
-        }
+    let Some(rec) = rec.as_array::<RECORD_BYTES>() else {
+        let refused = answer::refused(numbers::WRONG_LENGTH, 0);
+        return Parts {
+            front: refused,
+            middle: refused,
+            rest: refused,
+        };
     };
     let checked = Checked::new(rec, which, dir);
     Parts {
