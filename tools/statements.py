@@ -21,6 +21,8 @@ NEW_WORDS = {
 }
 # what only the newer forms say
 LEFT_OUT = {"(", ")", "tt", "Some", "Option", "A", "{", "}", "Result", "⊤"}
+# the answers of functions; a file of that name among the laws has theorems
+ANSWERS = re.compile(r"(?<!/laws)/(Answers|Invariants)\.antt$")
 HEAD = re.compile(r"^( *)((?:abbrev |unfoldable |pub |data |record |module )*)([^\s(){}:]+)((?: |$).*)")
 WORDS = re.compile(r"[(){}]|[^\s(){}]+")
 
@@ -32,7 +34,7 @@ def git(*words):
 def files(commit):
     listed = git("ls-tree", "-r", "--name-only", commit) if commit else git("ls-files")
     for path in listed.split("\n"):
-        if re.fullmatch(r"crates/\w+/(specs|proofs)/.*\.antt", path) and not path.endswith(("Answers.antt", "Invariants.antt")):
+        if re.fullmatch(r"crates/\w+/(specs|proofs)/.*\.antt", path) and not ANSWERS.search(path):
             yield path, git("show", f"{commit}:{path}") if commit else open(path, encoding="utf-8").read()
 
 

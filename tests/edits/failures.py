@@ -1,6 +1,6 @@
 """What fails in a check, read from what the check said.
 
-A function is named as the check names it, `answer::Answer::room`; a law by its file and its name,
+A function is named as the check names it, `answer::room`; a law by its file and its name,
 `proofs.laws.Order.one_answer`. What only follows from another failure is not counted: a law that cites one that has
 fallen, a function that calls one that is not proved. Nor is it counted that a proof names a goal or a fact which the
 edit took away: that shows nothing of the contract.

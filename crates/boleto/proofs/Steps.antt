@@ -20,10 +20,11 @@ pub line_laid : (bar out : List ℕ) → length bar ≡ barcode_digits → line_
 unfolding digit_line_of
 line_laid bar out h k = rw (spelled_out barcode_digits bar h, front line_digits out k)
 
-pub code_laid : (l out : List ℕ) → length l ≡ code_line_digits → code_digits ≤ length out →
+-- the last block ends at place 47
+pub code_laid : (l out : List ℕ) → 47 ≤ length l → code_digits ≤ length out →
     laid (laid (laid (laid out 1 l 1 11) 12 l 13 23) 23 l 25 35) 34 l 37 47 ≡ code_of l ++ drop code_digits out
 unfolding code_of
-code_laid l out h k = rw (spelled_out code_line_digits l h, front code_digits out k)
+code_laid l out h k = rw (front 47 l h, front code_digits out k)
 
 pub code_line_laid : (code out : List ℕ) → length code ≡ code_digits → code_line_digits ≤ length out → let m = modulus_of code in
     sealing m (laid (sealing m (laid (sealing m (laid (sealing m (laid out 1 code 1 11) 1 12) 13 code 12 22) 13 24) 25 code 23 33) 25 36) 37 code 34 44) 37 48

@@ -94,7 +94,9 @@ impl Fields {
         }
     }
 
-    // The same fields with another number at an index, or with none given there.
+    // The same fields with another number at an index, or with none given there. Put in line, and so is
+    // what calls it down to `with_records`: each call of its own would copy the fields.
+    #[inline(always)]
     fn give_nth(mut self, field: usize, m: Option<u64>) -> Fields
         ensures { result ≡ give_nth field m self }
     {
@@ -105,6 +107,7 @@ impl Fields {
     }
 
     // The same by a name; by one of another record, fields that every call refuses.
+    #[inline(always)]
     fn give_number(self, name: Name, m: Option<u64>) -> Fields
         ensures { result ≡ give_number name m self }
     {
@@ -116,6 +119,7 @@ impl Fields {
     }
 
     // The same fields with another number; by a name of another record, fields that every call refuses.
+    #[inline(always)]
     pub fn with_number(self, name: Name, n: u64) -> Fields
         ensures { result ≡ with_number name n self }
     {
@@ -124,6 +128,7 @@ impl Fields {
 
     // The same of cents. Beside `with_records`, and not one call that takes `impl Into<u64>`: that would
     // take cents where records are due.
+    #[inline(always)]
     pub fn with_cents(self, name: Name, cents: Cents) -> Fields
         ensures { result ≡ with_number name cents.0 self }
     {
@@ -131,6 +136,7 @@ impl Fields {
     }
 
     // The same of a count of records.
+    #[inline(always)]
     pub fn with_records(self, name: Name, records: RecordCount) -> Fields
         ensures { result ≡ with_number name records.0 self }
     {

@@ -18,8 +18,8 @@ use Rattle.checker.specs.Line.{line_bytes}
 use Rattle.checker.specs.Machine.{step_of}
 use Rattle.checker.specs.declared.Checker.{Checker}
 use Rattle.files.specs.File.{lines_of, unless, steps}
-use Rattle.files.specs.Parts.{waiting, bytes_in, state, unless_refused, arrive, taken, with_part, part_call}
-use Rattle.files.specs.inner.Joined.{Share, is_open, status_by}
+use Rattle.files.specs.Parts.{waiting, bytes_in, state, unless_refused, arrive, taken, with_part, part_call, status_by}
+use Rattle.files.specs.inner.Joined.{Share, is_open}
 use Rattle.files.specs.declared.incoming.Status.{Status}
 use Rattle.files.specs.declared.incoming.Status.TheVariants.{Open, Refused, Ended}
 use Rattle.files.specs.declared.incoming.Incoming.{Incoming}

@@ -69,6 +69,11 @@ with_part Ended s part = s
 abbrev pub part_call : Incoming → List ℕ → Taken
 part_call s part = taken (with_part s.status s part)
 
+-- what an answer says of the file, by itself: an acceptance leaves it open. What an accepted end has left, only the state tells
+abbrev pub status_by : Answer → Status
+status_by (Ok tt) = Open
+status_by (Err r) = Refused r
+
 -- ---- the call for the end
 
 -- accepted is ended; a refused end is a refusal like any other

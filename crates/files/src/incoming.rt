@@ -2,8 +2,8 @@
 ghost use Rattle.std.specs.Prelude.{◌≡◌, [], ◌++◌, ◌+◌, ◌<◌, ◌≤◌, length};
 ghost use Rattle.checker.specs.Line.{line_bytes};
 ghost use Rattle.files.specs.File.{lines_of, finish};
-ghost use Rattle.files.specs.Parts.{bytes_in, state, arrive, arrived, answer_in, part_call, status_behind, concluded, end_call};
-ghost use Rattle.files.specs.inner.Joined.{is_open, status_by};
+ghost use Rattle.files.specs.Parts.{bytes_in, state, arrive, arrived, answer_in, part_call, status_by, status_behind, concluded, end_call};
+ghost use Rattle.files.specs.inner.Joined.{is_open};
 
 use super::lines;
 use super::unfinished::Unfinished;

@@ -4,6 +4,7 @@ ghost use Rattle.std.specs.Prelude.{◌≡◌, get_or};
 ghost use Rattle.layout.specs.Field.{none};
 ghost use Rattle.layout.specs.Table.{all};
 ghost use Rattle.layout.specs.inner.Lent.{span_of, entry_in, field_of};
+ghost use Rattle.layout.specs.declared.table.TheConstants.{TABLE};
 
 use super::Record;
 use super::kinds::{
@@ -138,8 +139,8 @@ pub const KIND: [u8; FIELDS] = [
     N,
     N,
     F,
-    N_OR_BLANK,
-    N_OR_BLANK,
+    N_OR_BLANK, // 155-162
+    N_OR_BLANK, // 163-177
     F,
     O,
     // B
@@ -189,7 +190,7 @@ pub const KIND: [u8; FIELDS] = [
     ZERO_ONE_TWO,
     ID,
     T,
-    ZERO_ONE_TWO,
+    ZERO_ONE_TWO, // 132
     ID,
     T,
     K,
@@ -283,7 +284,8 @@ impl Table {
 
 // A field of the layout, by its number among those of all records.
 pub fn field_at(f: usize) -> Entry
-    ensures { field_of result ≡ get_or all f none }
+    ensures field { field_of result ≡ get_or all f none }
+    ensures entry { result ≡ entry_in TABLE f }
 {
     TABLE.entry_at(f)
 }

@@ -36,12 +36,12 @@ pub(crate) fn fields_of(said: &[u8], which: Record, many: usize) -> Option<Field
         ..Fields::none(which)
     };
     for (i, number) in numbers.iter().enumerate() {
-        let name = Name(which, i);
-        fields = match number_of(number) {
-            Some(n) => fields.with_number(name, n),
-            None if is_absent(number, which, i) => fields.not_given(name),
-            None => return None,
-        };
+        // In place where it is given, which it mostly is: `with_number` here would copy the fields each time.
+        match (number_of(number), fields.numbers.get_mut(i)) {
+            (Some(n), Some(place)) => *place = Some(n),
+            (None, _) if is_absent(number, which, i) => fields = fields.not_given(Name(which, i)),
+            _ => return None,
+        }
     }
     Some(fields)
 }

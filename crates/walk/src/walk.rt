@@ -5,7 +5,7 @@ ghost use Rattle.answer.specs.Rules.{first_broken};
 ghost use Rattle.layout.specs.inner.Lent.{field_count, start_of};
 ghost use Rattle.layout.specs.Table.{marks, fields_of, all};
 ghost use Rattle.layout.specs.Record.{rules_of};
-ghost use Rattle.walk.specs.inner.Masks.{Known};
+ghost use Rattle.walk.specs.inner.Masks.{Known, within, lows_of, highs_of};
 
 use super::looks::{Look, look_at};
 use super::masks::hold;
@@ -80,6 +80,7 @@ impl<'a> Checked<'a> {
         ensures bytes { result.rec.now ≡ rec.now }
         ensures record { result.which ≡ which }
         ensures direction { result.dir ≡ dir }
+        ensures masked { result.masked ≡ within (lows_of (fields_of which)) (highs_of dir (fields_of which)) rec.now }
     {
         Checked {
             rec,

@@ -10,30 +10,37 @@ use Rattle.fields.specs.Values.{taken_as, nth, or_zero}
 use Rattle.fields.specs.declared.Fields.{Fields}
 use Rattle.checker.specs.Totals.{tally, live, withdrawn, totals, withdrawal, only}
 use Rattle.checker.specs.declared.totals.Totals.{Totals}
+use Rattle.writer.specs.declared.given.Given.{Given}
+use Rattle.writer.specs.declared.given.Given.TheVariants.{One, Two, Three}
 use Rattle.writer.specs.declared.given.Payment.{Payment}
-use Rattle.writer.specs.declared.given.Payment.TheVariants.{One, Two, Three}
 
 -- one record, an O; two records; or three
 abbrev pub one : Fields → Payment
-one a = One a
+one a = record { given = One a }
 
 abbrev pub two : Fields → Fields → Payment
-two a b = Two a b
+two a b = record { given = Two a b }
 
 abbrev pub three : Fields → Fields → Fields → Payment
-three a b c = Three a b c
+three a b c = record { given = Three a b c }
 
 -- the first; alone it is an O, and fields of another record are taken as spoiled
-abbrev pub first_in : Payment → Fields
-first_in (One a) = taken_as SegmentO a
-first_in (Two a b) = a
-first_in (Three a b c) = a
+abbrev pub first_of : Given → Fields
+first_of (One a) = taken_as SegmentO a
+first_of (Two a b) = a
+first_of (Three a b c) = a
 
 -- those behind it
+abbrev pub later_of : Given → List Fields
+later_of (One a) = []
+later_of (Two a b) = b ∷ []
+later_of (Three a b c) = b ∷ c ∷ []
+
+abbrev pub first_in : Payment → Fields
+first_in p = first_of p.given
+
 abbrev pub later_in : Payment → List Fields
-later_in (One a) = []
-later_in (Two a b) = b ∷ []
-later_in (Three a b c) = b ∷ c ∷ []
+later_in p = later_of p.given
 
 abbrev pub records_in : Payment → List Fields
 records_in p = first_in p ∷ later_in p

@@ -13,10 +13,16 @@ pub(crate) const MOST_RECORDS: usize = 3;
 
 // One record, which is an O, two or three: no other count of them can be written down.
 #[derive(Clone, Copy)]
-pub enum Payment {
+enum Given {
     One(Fields),
     Two(Fields, Fields),
     Three(Fields, Fields, Fields),
+}
+
+// A payment's records. They are private: a payment is made by `of_one`, `of_two` or `of_three`.
+#[derive(Clone, Copy)]
+pub struct Payment {
+    given: Given,
 }
 
 impl Payment {
@@ -24,31 +30,37 @@ impl Payment {
     pub fn of_one(first: Fields) -> Payment
         ensures { result ≡ one first }
     {
-        Payment::One(first)
+        Payment {
+            given: Given::One(first),
+        }
     }
 
     // A payment of two records.
     pub fn of_two(first: Fields, second: Fields) -> Payment
         ensures { result ≡ two first second }
     {
-        Payment::Two(first, second)
+        Payment {
+            given: Given::Two(first, second),
+        }
     }
 
     // A payment of three records: two and a Z, or whatever is given in their places.
     pub fn of_three(first: Fields, second: Fields, third: Fields) -> Payment
         ensures { result ≡ three first second third }
     {
-        Payment::Three(first, second, third)
+        Payment {
+            given: Given::Three(first, second, third),
+        }
     }
 
     // How many records it has.
     pub(crate) fn records(self) -> usize
         ensures { (result ≡ length (records_in self)) × (result ≤ most_details) }
     {
-        match self {
-            Payment::One(_) => 1,
-            Payment::Two(_, _) => 2,
-            Payment::Three(_, _, _) => 3,
+        match self.given {
+            Given::One(_) => 1,
+            Given::Two(_, _) => 2,
+            Given::Three(_, _, _) => 3,
         }
     }
 
@@ -56,9 +68,9 @@ impl Payment {
     pub(crate) fn first_record(self) -> Fields
         ensures { result ≡ first_in self }
     {
-        match self {
-            Payment::One(first) => first.taken_as(Record::SegmentO),
-            Payment::Two(first, _) | Payment::Three(first, _, _) => first,
+        match self.given {
+            Given::One(first) => first.taken_as(Record::SegmentO),
+            Given::Two(first, _) | Given::Three(first, _, _) => first,
         }
     }
 
@@ -66,11 +78,11 @@ impl Payment {
     pub(crate) fn record_at(self, position: usize) -> Fields
         ensures { result ≡ nth_in position self }
     {
-        match (self, position) {
+        match (self.given, position) {
             (_, 0) => self.first_record(),
-            (Payment::Two(_, second) | Payment::Three(_, second, _), 1) => second,
-            (Payment::Three(_, _, third), _) => third,
-            (Payment::One(_) | Payment::Two(_, _), _) => Fields::none(Record::SegmentZ),
+            (Given::Two(_, second) | Given::Three(_, second, _), 1) => second,
+            (Given::Three(_, _, third), _) => third,
+            (Given::One(_) | Given::Two(_, _), _) => Fields::none(Record::SegmentZ),
         }
     }
 }

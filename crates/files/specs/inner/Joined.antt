@@ -1,6 +1,5 @@
 -- What comes to an unfinished line, and how a file stands. Assumes nothing.
-use Rattle.std.specs.Prelude.{◌≡◌, ◌⊎◌, Bool, true, false, List, ◌++◌, ℕ, ◌+◌, ◌≤◌, ◌<◌, length, take, drop, Err, Ok}
-use Rattle.answer.specs.Rules.{Answer}
+use Rattle.std.specs.Prelude.{◌≡◌, ◌⊎◌, Bool, true, false, List, ◌++◌, ℕ, ◌+◌, ◌≤◌, ◌<◌, length, take, drop}
 use Rattle.checker.specs.Line.{line_bytes}
 use Rattle.files.specs.Parts.{bytes_in}
 use Rattle.files.specs.declared.unfinished.Unfinished.{Unfinished}
@@ -25,7 +24,3 @@ abbrev pub is_open : Status → Bool
 is_open Open = true
 is_open (Refused r) = false
 is_open Ended = false
-
-abbrev pub status_by : Answer → Status
-status_by (Ok tt) = Open
-status_by (Err r) = Refused r

@@ -1,4 +1,4 @@
--- An entry of the columns that the code lends, and a field's width. Assumes nothing.
+-- An entry of the columns that the code holds, and a field's width. Assumes nothing.
 use Rattle.std.specs.Prelude.{◌≡◌, ℕ, ◌-◌, ◌≤◌, T, get_or}
 use Rattle.layout.specs.Field.{Field, field, none}
 use Rattle.layout.specs.Table.{record_bytes, all}

@@ -1,4 +1,4 @@
--- The table as the code holds and lends it: columns of numbers, kinds by number, and fixed content. Assumes nothing.
+-- The table as the code holds it and hands it out: columns of numbers, kinds by number, and fixed content. Assumes nothing.
 use Rattle.std.specs.Prelude.{◌≡◌, Bool, true, cond, ◌&&◌, List, [], ◌∷◌, map, ℕ, ◌+◌, ◌-◌, leb, ltb, eqb, length, get_or, take}
 use Rattle.digits.specs.Digits.{digit_byte}
 use Rattle.digits.specs.inner.Rows.{tab}

@@ -1,5 +1,5 @@
 -- The records of a payment that is given: its first, how many they are, and one after the other. Assumes nothing.
-use Rattle.std.specs.Prelude.{◌≡◌, refl, List, [], ◌∷◌, ℕ, zero, suc, ◌<◌, ◌≤◌, length, drop, None, Option, Some}
+use Rattle.std.specs.Prelude.{◌≡◌, refl, List, [], ◌∷◌, ℕ, zero, suc, ◌<◌, ◌≤◌, length, drop, get_or, None, Option, Some}
 use Rattle.std.proofs.Common.{sym, ap, ◌∙◌, arith, lt-ltb, eq-eqb, drop-cons}
 use Rattle.std.proofs.Math.Decide.{dec_lt}
 use Rattle.answer.proofs.laws.Order.{never}
@@ -16,11 +16,12 @@ use Rattle.checker.specs.Order.{payment}
 use Rattle.checker.specs.Machine.{most_details}
 use Rattle.checker.proofs.laws.Payments.{brief, row, stands_in, one_stands}
 use Rattle.checker.specs.inner.Following.{Stands}
-use Rattle.writer.specs.Given.{one, two, three, first_in, records_in}
+use Rattle.writer.specs.Given.{one, two, three, first_of, later_of, first_in, records_in}
 use Rattle.writer.specs.Refusals.{turns}
-use Rattle.writer.specs.inner.Steps.{third_in, nth_in}
+use Rattle.writer.specs.inner.Steps.{third_of, third_in, nth_in}
+use Rattle.writer.specs.declared.given.Given.{Given}
+use Rattle.writer.specs.declared.given.Given.TheVariants.{One, Two, Three}
 use Rattle.writer.specs.declared.given.Payment.{Payment}
-use Rattle.writer.specs.declared.given.Payment.TheVariants.{One, Two, Three}
 
 -- it has a first
 pub begins_with : (p : Payment) → records_in p ≡ first_in p ∷ drop 1 (records_in p)
@@ -28,9 +29,12 @@ begins_with p = refl
 
 -- and no more than a payment may have
 pub some_few : (p : Payment) → (1 ≤ length (records_in p)) × (length (records_in p) ≤ most_details)
-some_few (One a) = omega arith
-some_few (Two a b) = omega arith
-some_few (Three a b c) = omega arith
+some_few p = go p.given
+  where
+    go : (r : Given) → (1 ≤ length (first_of r ∷ later_of r)) × (length (first_of r ∷ later_of r) ≤ most_details)
+    go (One a) = omega arith
+    go (Two a b) = omega arith
+    go (Three a b c) = omega arith
 
 -- behind an O no record of a payment is due
 o_alone : (b : Option Batch) → Stands b 0 SegmentO → length (payment b) ≤ 1
@@ -42,9 +46,12 @@ o_alone b g = go (dec_lt 1 (length (payment b)))
 
 -- where its first is the one that is due, it has as many as its kind of batch asks for
 pub paid_in_full : (b : Option Batch) (p : Payment) → Stands b 0 (first_in p).which → length (payment b) ≤ length (records_in p)
-paid_in_full b (One x) g = o_alone b g
-paid_in_full b (Two x y) g = omega (arith, brief b)
-paid_in_full b (Three x y z) g = omega (arith, brief b)
+paid_in_full b p g = go p.given g
+  where
+    go : (r : Given) → Stands b 0 (first_of r).which → length (payment b) ≤ length (first_of r ∷ later_of r)
+    go (One x) f = o_alone b f
+    go (Two x y) f = omega (arith, brief b)
+    go (Three x y z) f = omega (arith, brief b)
 
 -- from a position on
 pub from_position : (p : Payment) (k : ℕ) → k < length (records_in p) → drop k (records_in p) ≡ nth_in k p ∷ drop (suc k) (records_in p)
@@ -54,10 +61,13 @@ from_position p k h = drop-cons (records_in p) k (third_in p) h
 pub the_third : (p : Payment) (k : ℕ) → 2 ≤ k → nth_in k p ≡ third_in p
 the_third p zero h = absurd (omega arith)
 the_third p (suc zero) h = absurd (omega arith)
-the_third (One a) (suc (suc k)) h = refl
-the_third (Two a b) (suc (suc k)) h = refl
-the_third (Three a b c) (suc (suc zero)) h = refl
-the_third (Three a b c) (suc (suc (suc k))) h = refl
+the_third p (suc (suc k)) h = go p.given k
+  where
+    go : (r : Given) (k : ℕ) → get_or (first_of r ∷ later_of r) (suc (suc k)) (third_of r) ≡ third_of r
+    go (One a) k = refl
+    go (Two a b) k = refl
+    go (Three a b c) zero = refl
+    go (Three a b c) (suc k) = refl
 
 -- ---- and so many records are a payment
 

@@ -24,8 +24,9 @@ use Rattle.writer.specs.Given.{records_in}
 use Rattle.filling.specs.Filling.{filled}
 use Rattle.writer.specs.Refusals.{turns, sum_rule, positions, expected_in_payment, expected_now, given_on_line, next_by, all_given, held}
 use Rattle.writer.specs.Outcome.{lines_for, behind_all, cursor_behind, state_after, output_after}
+use Rattle.writer.specs.declared.given.Given.{Given}
+use Rattle.writer.specs.declared.given.Given.TheVariants.{One, Two, Three}
 use Rattle.writer.specs.declared.given.Payment.{Payment}
-use Rattle.writer.specs.declared.given.Payment.TheVariants.{One, Two, Three}
 use Rattle.writer.specs.declared.records.Tried.{Tried}
 use Rattle.writer.specs.declared.Writer.{Writer}
 use Rattle.writer.specs.declared.Written.{Written}
@@ -71,10 +72,13 @@ pub data AllRight : List Made → Type 0 where
   one_more : {m : Made} {ms : List Made} → m.answer ≡ Ok tt → AllRight ms → AllRight (m ∷ ms)
 
 -- the third of a payment's records; a place that is not used has none
+abbrev pub third_of : Given → Fields
+third_of (One a) = no_fields SegmentZ
+third_of (Two a b) = no_fields SegmentZ
+third_of (Three a b c) = c
+
 abbrev pub third_in : Payment → Fields
-third_in (One a) = no_fields SegmentZ
-third_in (Two a b) = no_fields SegmentZ
-third_in (Three a b c) = c
+third_in p = third_of p.given
 
 -- the record of a payment at a position, from 0 on
 abbrev pub nth_in : ℕ → Payment → Fields
