@@ -30,18 +30,19 @@ first_of (One a) = taken_as SegmentO a
 first_of (Two a b) = a
 first_of (Three a b c) = a
 
+abbrev pub first_in : Payment → Fields
+first_in p = first_of p.given
+
 -- those behind it
 abbrev pub later_of : Given → List Fields
 later_of (One a) = []
 later_of (Two a b) = b ∷ []
 later_of (Three a b c) = b ∷ c ∷ []
 
-abbrev pub first_in : Payment → Fields
-first_in p = first_of p.given
-
 abbrev pub later_in : Payment → List Fields
 later_in p = later_of p.given
 
+-- all of them, in their order
 abbrev pub records_in : Payment → List Fields
 records_in p = first_in p ∷ later_in p
 
